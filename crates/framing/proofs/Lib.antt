@@ -1,0 +1,7 @@
+pub mod Sums
+pub mod Plans
+pub mod BinaryPlan
+pub mod Choice
+pub mod SentencePlan
+pub mod Pairs
+pub mod Readings

@@ -1,0 +1,6 @@
+pub mod Checksum
+pub mod Verdicts
+pub mod Plan
+pub mod Binary
+pub mod Sentence
+pub mod Reading

@@ -1,0 +1,60 @@
+-- The reading of a stream: which records it has, and where it stops or ends. Assumes nothing.
+use Prim.Native.Nat.{ℕ, _+_, _≤_, _<_}
+use mathlib.Core.Path.{_≡_}
+use mathlib.Core.Bool.{Bool, true, false}
+use mathlib.Core.List.{List, [], _∷_, _++_}
+use lib.ListN.{length, take, drop}
+use Rattle.framing.specs.declared.verdict.Verdict.{Verdict}
+use Rattle.framing.specs.declared.verdict.Verdict.the-variants.{NoFrame, Short, Frame}
+use Rattle.framing.specs.declared.reading.Next.{Next}
+use Rattle.framing.specs.declared.reading.Next.the-variants.{Record, End}
+use Rattle.framing.specs.Verdicts.{Laws}
+
+-- a record: how many bytes of the stream stand before it, its bytes, and its kind
+pub record Found : Type 0 where
+  pub place : ℕ
+  pub bytes : List ℕ
+  pub kind : ℕ
+
+-- the record that a frame of n bytes at place p of a stream is
+abbrev pub found : List ℕ → ℕ → ℕ → ℕ → Found
+found s p n k = record { place = p; bytes = take n (drop p s); kind = k }
+
+-- From place p on, the reading of the stream s, closed or still open, has the records rs, and stops or ends at place e.
+-- `verdict` is the framing's; at each place it is asked of the rest of the stream.
+pub data Reading (verdict : List ℕ → Verdict) (closed : Bool) (s : List ℕ) : ℕ → List Found → ℕ → Type 0 where
+  -- where no byte is left it ends
+  ends : {p : ℕ} → length s ≤ p → Reading verdict closed s p [] p
+  -- more bytes are needed to tell, and may still come
+  stops : {p : ℕ} → p < length s → verdict (drop p s) ≡ Short → closed ≡ false → Reading verdict closed s p [] p
+  -- more bytes are needed, and none will come: one byte is passed over
+  cuts : {p e : ℕ} {rs : List Found} → p < length s → verdict (drop p s) ≡ Short → closed ≡ true
+      → Reading verdict closed s (p + 1) rs e → Reading verdict closed s p rs e
+  -- no frame begins here: one byte is passed over
+  skips : {p e : ℕ} {rs : List Found} → p < length s → verdict (drop p s) ≡ NoFrame
+      → Reading verdict closed s (p + 1) rs e → Reading verdict closed s p rs e
+  -- a frame is a record, and the reading goes on behind it
+  takes : {p e n k : ℕ} {rs : List Found} → p < length s → verdict (drop p s) ≡ Frame n k
+      → Reading verdict closed s (p + n) rs e → Reading verdict closed s p (found s p n k ∷ rs) e
+
+-- every stream, open or closed, has exactly one reading
+abbrev pub One-reading : Type 0
+One-reading =
+    (verdict : List ℕ → Verdict) (reach : ℕ) → Laws verdict reach → (closed : Bool) (s : List ℕ)
+    → (rs : List Found) × (e : ℕ) × Reading verdict closed s 0 rs e
+      × ((rs′ : List Found) (e′ : ℕ) → Reading verdict closed s 0 rs′ e′ → (rs ≡ rs′) × (e ≡ e′))
+
+-- what an open reading has found stays found, and what it has passed over stays passed over: with any bytes behind, open or
+-- closed, the reading has the same records first, and then those from where the open one stood
+abbrev pub Prefix-stable : Type 0
+Prefix-stable =
+    (verdict : List ℕ → Verdict) (reach : ℕ) → Laws verdict reach → (s t : List ℕ) (closed : Bool)
+    → (p e e′ : ℕ) (rs rs′ : List Found)
+    → Reading verdict false s p rs e → Reading verdict closed (s ++ t) e rs′ e′ → Reading verdict closed (s ++ t) p (rs ++ rs′) e′
+
+-- the next step of a reading from a place on: the record that comes first in it, or where it stops or ends without one
+abbrev pub NextOf : (List ℕ → Verdict) → Bool → List ℕ → ℕ → Next → Type 0
+NextOf verdict closed s from (Record place len kind) =
+    (place + len ≤ length s)
+    × ((rs : List Found) (e : ℕ) → Reading verdict closed s (place + len) rs e → Reading verdict closed s from (found s place len kind ∷ rs) e)
+NextOf verdict closed s from (End place) = Reading verdict closed s from [] place
