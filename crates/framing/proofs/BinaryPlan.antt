@@ -30,7 +30,7 @@ body-sound h t =
 header-sound : Sound 8192 2 header
 header-sound = (omega arith, λ h _. given-sound (headed h) (body h) 8192 10 (body-sound h))
 
-abbrev after-sync : Plan
+abbrev pub after-sync : Plan
 after-sync = await 2 λ s. given (eqb (getD s 1 0) 10) header
 
 binary-sound : Sound 8192 0 binary

@@ -5,3 +5,5 @@ pub mod Choice
 pub mod SentencePlan
 pub mod Pairs
 pub mod Readings
+pub mod BinaryFrames
+pub mod SentenceFrames

@@ -15,6 +15,12 @@ use Rattle.framing.specs.declared.verdict.Verdict.the-variants.{NoFrame, Short
 use Rattle.framing.specs.Verdicts.{Laws}
 use Rattle.framing.specs.Plan.{Plan, none, frame, await, span, spanned, judged, given, Sound}
 
+pub frame-len : {n m k j : ℕ} → Frame n k ≡ Frame m j → n ≡ m
+frame-len e = cc
+
+pub frame-kind : {n m k j : ℕ} → Frame n k ≡ Frame m j → k ≡ j
+frame-kind e = cc
+
 -- what passes a test, counted in a longer list
 leading-more : (test : ℕ → Bool) (s t : List ℕ) → leading test s ≤ leading test (s ++ t)
 leading-more test [] t = omega arith
@@ -160,3 +166,21 @@ lawful p reach sound first low high = record {
   stays = λ s t. stays p reach 0 sound s t (omega arith);
   decided = λ s. decided p reach 0 sound s (omega arith);
 }
+
+-- what stands behind a frame, step by step
+pub await-frame : (m : ℕ) (go : List ℕ → Plan) (s : List ℕ) (n k : ℕ) → judged (await m go) s ≡ Frame n k → (m ≤ length s) × (judged (go (take m s)) s ≡ Frame n k)
+await-frame m go s n k =
+    awaited (ltb (length s) m) (judged (go (take m s)) s) (Frame n k) _ (λ _ w. absurd (clash-short n k w)) (λ b v. (ltb-false (length s) m b, v))
+
+pub given-frame : (b : Bool) (p : Plan) (s : List ℕ) (n k : ℕ) → judged (given b p) s ≡ Frame n k → (b ≡ true) × (judged p s ≡ Frame n k)
+given-frame true p s n k e = (refl, e)
+given-frame false p s n k e = absurd (clash-no n k e)
+
+pub span-frame : (from most : ℕ) (test : ℕ → Bool) (go : ℕ → Plan) (s : List ℕ) (n k : ℕ) → judged (span from test most go) s ≡ Frame n k
+    → (from + leading test (drop from s) < length s) × (leading test (drop from s) ≤ most) × (judged (go (leading test (drop from s))) s ≡ Frame n k)
+span-frame from most test go s n k =
+    let m = leading test (drop from s) in
+    counted (ltb (from + m) (length s)) (leb m most) (judged (go m) s) (Frame n k) _
+    (λ _ w. absurd (clash-no n k (sym w)))
+    (λ _ _ w. absurd (clash-short n k w))
+    (λ b f v. (ltb-true (from + m) (length s) b, leb-true m most f, v))

@@ -12,13 +12,8 @@ use Rattle.std.proofs.shelf.Tests.{cases-lt}
 use Rattle.framing.specs.declared.verdict.Verdict.{Verdict}
 use Rattle.framing.specs.declared.verdict.Verdict.the-variants.{NoFrame, Short, Frame}
 use Rattle.framing.specs.Verdicts.{Laws}
+use Rattle.framing.proofs.Plans.{frame-len, frame-kind}
 use Rattle.framing.specs.Reading.{Found, found, Reading, ends, stops, cuts, skips, takes}
-
-frame-len : {n m k j : ℕ} → Frame n k ≡ Frame m j → n ≡ m
-frame-len e = cc
-
-frame-kind : {n m k j : ℕ} → Frame n k ≡ Frame m j → k ≡ j
-frame-kind e = cc
 
 -- two verdicts that are not the same
 clash : {n k : ℕ} {v : Verdict} → v ≡ Short → v ≡ Frame n k → ⊥

@@ -8,7 +8,7 @@ ghost use lib.ListN.{length};
 ghost use Rattle.std.specs.declared.option.Option.the-variants.{Some, None};
 ghost use Rattle.framing.specs.Checksum.{checksum};
 ghost use Rattle.framing.specs.Plan.{judged};
-ghost use Rattle.framing.specs.Binary.{binary as binary-plan, headed, word};
+ghost use Rattle.framing.specs.Binary.{binary as binary-plan, headed, word, Exactly-frames};
 use crate::checksum::checksum_of;
 use crate::verdict::Framing;
 use crate::verdict::Verdict;
@@ -54,35 +54,45 @@ fn data_verdict(header: &[u8], body: &[u8]) -> Verdict
     Verdict::Frame { len: HEADER + body.len(), kind: KIND }
 }
 
+// The verdict on some bytes, step by step.
+fn judge(bytes: &[u8]) -> Verdict
+    ensures { λ r. ⌜ r ≡ judged binary-plan (now (bytes .entry)) ⌝ }
+{
+    if bytes.is_empty() {
+        return Verdict::Short;
+    }
+    if bytes[0] != SYNC {
+        return Verdict::NoFrame;
+    }
+    if bytes.len() < 2 {
+        return Verdict::Short;
+    }
+    if bytes[1] != HEADER_BYTE {
+        return Verdict::NoFrame;
+    }
+    if bytes.len() < HEADER {
+        return Verdict::Short;
+    }
+    let header = &bytes[0..HEADER];
+    let Some(size) = data_size(header) else {
+        return Verdict::NoFrame;
+    };
+    if bytes.len() - HEADER < size {
+        return Verdict::Short;
+    }
+    data_verdict(header, &bytes[HEADER..HEADER + size])
+}
+
 pub impl Framing for Binary as BinaryFraming {
     ghost verdict = { λ _. judged binary-plan };
 
     ghost reach = { λ _. 8192 };
 
-    fn look(&self, bytes: &[u8]) -> Verdict {
-        if bytes.is_empty() {
-            return Verdict::Short;
-        }
-        if bytes[0] != SYNC {
-            return Verdict::NoFrame;
-        }
-        if bytes.len() < 2 {
-            return Verdict::Short;
-        }
-        if bytes[1] != HEADER_BYTE {
-            return Verdict::NoFrame;
-        }
-        if bytes.len() < HEADER {
-            return Verdict::Short;
-        }
-        let header = &bytes[0..HEADER];
-        let Some(size) = data_size(header) else {
-            return Verdict::NoFrame;
-        };
-        if bytes.len() - HEADER < size {
-            return Verdict::Short;
-        }
-        data_verdict(header, &bytes[HEADER..HEADER + size])
+    fn look(&self, bytes: &[u8]) -> Verdict
+        ensures verdict { λ r. ⌜ r ≡ judged binary-plan (now (bytes .entry)) ⌝ }
+        ensures frames { λ r. ⌜ Exactly-frames (now (bytes .entry)) r ⌝ }
+    {
+        judge(bytes)
     }
 
     fn limit(&self) -> usize {

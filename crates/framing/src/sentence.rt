@@ -5,7 +5,7 @@ ghost use Prim.Native.Nat.{_≤_, _<_};
 ghost use lib.ListN.{length};
 ghost use Rattle.std.specs.shelf.Lists.{leading};
 ghost use Rattle.framing.specs.Plan.{judged};
-ghost use Rattle.framing.specs.Sentence.{sentence as sentence-plan, payload, xorOf, hexValue, finished, closing};
+ghost use Rattle.framing.specs.Sentence.{sentence as sentence-plan, payload, xorOf, hexValue, finished, closing, Exactly-sentences};
 use crate::verdict::Framing;
 use crate::verdict::Verdict;
 
@@ -88,27 +88,37 @@ fn close(text: &[u8], tail: &[u8]) -> Verdict
     }
 }
 
+// The verdict on some bytes, step by step.
+fn judge(bytes: &[u8]) -> Verdict
+    ensures { λ r. ⌜ r ≡ judged sentence-plan (now (bytes .entry)) ⌝ }
+{
+    if bytes.is_empty() {
+        return Verdict::Short;
+    }
+    if bytes[0] != b'$' {
+        return Verdict::NoFrame;
+    }
+    let near = bytes.len().min(MOST_PAYLOAD + 2);
+    let k = 1 + payload_len(&bytes[1..near]);
+    if k > MOST_PAYLOAD + 1 {
+        return Verdict::NoFrame;
+    }
+    if k == bytes.len() {
+        return Verdict::Short;
+    }
+    close(&bytes[1..k], &bytes[k..])
+}
+
 pub impl Framing for Sentence as SentenceFraming {
     ghost verdict = { λ _. judged sentence-plan };
 
     ghost reach = { λ _. 512 };
 
-    fn look(&self, bytes: &[u8]) -> Verdict {
-        if bytes.is_empty() {
-            return Verdict::Short;
-        }
-        if bytes[0] != b'$' {
-            return Verdict::NoFrame;
-        }
-        let near = bytes.len().min(MOST_PAYLOAD + 2);
-        let k = 1 + payload_len(&bytes[1..near]);
-        if k > MOST_PAYLOAD + 1 {
-            return Verdict::NoFrame;
-        }
-        if k == bytes.len() {
-            return Verdict::Short;
-        }
-        close(&bytes[1..k], &bytes[k..])
+    fn look(&self, bytes: &[u8]) -> Verdict
+        ensures verdict { λ r. ⌜ r ≡ judged sentence-plan (now (bytes .entry)) ⌝ }
+        ensures sentences { λ r. ⌜ Exactly-sentences (now (bytes .entry)) r ⌝ }
+    {
+        judge(bytes)
     }
 
     fn limit(&self) -> usize {
