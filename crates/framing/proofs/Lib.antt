@@ -7,3 +7,4 @@ pub mod Pairs
 pub mod Readings
 pub mod BinaryFrames
 pub mod SentenceFrames
+pub mod Lists

@@ -127,3 +127,24 @@ module _ {v : List ℕ → Verdict} {reach : ℕ} (laws : Laws v reach) (s t : L
   goes-on {c} {p} {e} {e′} {rs} {rs′} (takes {n = n} {k = k} {rs = more} l q r) x =
       let w : v (drop p (s ++ t)) ≡ Frame n k = longer p (omega arith) (λ z. clash z q) ∙ q in
       subst (λ f. Reading v c (s ++ t) p (f ∷ (more ++ rs′)) e′) (same-found p n k l q) (takes (there p l) w (goes-on r x))
+
+-- where a reading stands at the end
+module _ {v : List ℕ → Verdict} {reach : ℕ} (laws : Laws v reach) where
+  pub bounds : {c : Bool} {s : List ℕ} {p e : ℕ} {rs : List Found} → Reading v c s p rs e → p ≤ length s → (p ≤ e) × (e ≤ length s)
+  bounds (ends l) h = (omega arith, h)
+  bounds (stops l q o) h = (omega arith, h)
+  bounds (cuts l q o r) h = let b = bounds r (omega arith) in (omega arith, b .1)
+  bounds (skips l q r) h = let b = bounds r (omega arith) in (omega arith, b .1)
+  bounds {c} {s} {p} (takes {n = n} {k = k} l q r) h =
+      let fits = laws .within (drop p s) n k q .1 in
+      let b = bounds r (omega (arith, length-drop p s)) in
+      (omega arith, b .1)
+
+  -- a closed one ends where the stream does
+  pub closed-end : {s : List ℕ} {p e : ℕ} {rs : List Found} → Reading v true s p rs e → p ≤ length s → e ≡ length s
+  closed-end (ends l) h = omega arith
+  closed-end (stops l q o) h = absurd (clash-closed refl o)
+  closed-end (cuts l q o r) h = closed-end r (omega arith)
+  closed-end (skips l q r) h = closed-end r (omega arith)
+  closed-end {s} {p} (takes {n = n} {k = k} l q r) h =
+      closed-end r (omega (arith, laws .within (drop p s) n k q .1, length-drop p s))

@@ -4,3 +4,4 @@ pub mod Plan
 pub mod Binary
 pub mod Sentence
 pub mod Reading
+pub mod Listed

@@ -1,9 +1,10 @@
 -- The reading of a stream: which records it has, and where it stops or ends. Assumes nothing.
 use Prim.Native.Nat.{ℕ, _+_, _≤_, _<_}
 use mathlib.Core.Path.{_≡_}
-use mathlib.Core.Bool.{Bool, true, false}
+use mathlib.Core.Bool.{Bool, true, false, cond, _&&_}
 use mathlib.Core.List.{List, [], _∷_, _++_}
-use lib.ListN.{length, take, drop}
+use lib.Dec.{eqb, leb}
+use lib.ListN.{length, getD, take, drop}
 use Rattle.framing.specs.declared.verdict.Verdict.{Verdict}
 use Rattle.framing.specs.declared.verdict.Verdict.the-variants.{NoFrame, Short, Frame}
 use Rattle.framing.specs.declared.reading.Next.{Next}
@@ -52,9 +53,18 @@ Prefix-stable =
     → (p e e′ : ℕ) (rs rs′ : List Found)
     → Reading verdict false s p rs e → Reading verdict closed (s ++ t) e rs′ e′ → Reading verdict closed (s ++ t) p (rs ++ rs′) e′
 
+-- in the reading from a place on, the first record is the one of `len` bytes at `place`
+pub record Comes (verdict : List ℕ → Verdict) (closed : Bool) (s : List ℕ) (from place len kind : ℕ) : Type 0 where
+  pub behind : from ≤ place
+  pub some : 1 ≤ len
+  pub within : place + len ≤ length s
+  pub first : (rs : List Found) (e : ℕ) → Reading verdict closed s (place + len) rs e → Reading verdict closed s from (found s place len kind ∷ rs) e
+
 -- the next step of a reading from a place on: the record that comes first in it, or where it stops or ends without one
 abbrev pub NextOf : (List ℕ → Verdict) → Bool → List ℕ → ℕ → Next → Type 0
-NextOf verdict closed s from (Record place len kind) =
-    (place + len ≤ length s)
-    × ((rs : List Found) (e : ℕ) → Reading verdict closed s (place + len) rs e → Reading verdict closed s from (found s place len kind ∷ rs) e)
+NextOf verdict closed s from (Record place len kind) = Comes verdict closed s from place len kind
 NextOf verdict closed s from (End place) = Reading verdict closed s from [] place
+
+-- the series of a record: the third byte of a kind 1 record that has one, else 0
+abbrev pub seriesOf : ℕ → List ℕ → ℕ
+seriesOf kind bytes = cond (eqb kind 1 && leb 3 (length bytes)) (getD bytes 2 0) 0

@@ -5,3 +5,4 @@ pub mod binary;
 pub mod sentence;
 pub mod pair;
 pub mod reading;
+pub mod listing;

@@ -13,22 +13,27 @@ returns-in-Frame g c =
     let p = c .loop-place .place in
     let v = g .F·Framing .verdict (c .args .framing .now) in
     let seen : v (drop p s) ≡ Frame (c .in-Frame .len) (c .in-Frame .kind) = ap v (sym (take-rest s p)) ∙ sym (c .in-Frame .ensures tt) in
-    let fits = g .F·Framing·met .lawful (c .args .framing .now) .within (drop p s) _ _ seen .1 in
-    (omega (arith, fits, length-drop p s), λ rs e r. c .loop-place .inv _ e (takes (c .loop-place-test .taken) seen r))
+    let fits = g .F·Framing·met .lawful (c .args .framing .now) .within (drop p s) _ _ seen in
+    record {
+      behind = c .loop-place .inv .0;
+      some = fits .0;
+      within = omega (arith, fits .1, length-drop p s);
+      first = λ rs e r. c .loop-place .inv .1 _ e (takes (c .loop-place-test .taken) seen r);
+    }
 
 pub loop-place-again : need.loop-place-again
-loop-place-again g c rs e r =
+loop-place-again g c = (omega arith, λ rs e r.
     let s = c .args .bytes .now in
     let p = c .loop-place .place in
     let v = g .F·Framing .verdict (c .args .framing .now) in
     let here = ap v (sym (take-rest s p)) ∙ sym (c .look .ensures) in
     elim (c .match-look .came) [
-      in-NoFrame w ↦ c .loop-place .inv rs e (skips (c .loop-place-test .taken) (here ∙ w .in-NoFrame .is) r)
-      | in-Short·else-not-closed w ↦ c .loop-place .inv rs e (cuts (c .loop-place-test .taken) (here ∙ w .in-Short .is) (w .if-not-closed .left) r)
-    ]
+      in-NoFrame w ↦ c .loop-place .inv .1 rs e (skips (c .loop-place-test .taken) (here ∙ w .in-NoFrame .is) r)
+      | in-Short·else-not-closed w ↦ c .loop-place .inv .1 rs e (cuts (c .loop-place-test .taken) (here ∙ w .in-Short .is) (w .if-not-closed .left) r)
+    ])
 
 pub returns-after-loop-place : need.returns-after-loop-place
-returns-after-loop-place g c = c .loop-place .inv _ _ (ends (c .loop-place-test .left))
+returns-after-loop-place g c = c .loop-place .inv .1 _ _ (ends (c .loop-place-test .left))
 
 pub returns-then-not-closed : need.returns-then-not-closed
 returns-then-not-closed g c =
@@ -36,4 +41,4 @@ returns-then-not-closed g c =
     let p = c .loop-place .place in
     let v = g .F·Framing .verdict (c .args .framing .now) in
     let seen : v (drop p s) ≡ Short = ap v (sym (take-rest s p)) ∙ sym (c .in-Short .ensures tt) in
-    c .loop-place .inv _ _ (stops (c .loop-place-test .taken) seen (c .if-not-closed .taken))
+    c .loop-place .inv .1 _ _ (stops (c .loop-place-test .taken) seen (c .if-not-closed .taken))

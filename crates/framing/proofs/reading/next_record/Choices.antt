@@ -1,4 +1,4 @@
-use Prim.Native.Nat.{ℕ, _-_}
+use Prim.Native.Nat.{ℕ, _-_, _≤_}
 use mathlib.Core.List.{List}
 use lib.ListN.{length}
 use Rattle.framing.specs.Reading.{Found, Reading}
@@ -8,7 +8,7 @@ use Rattle.framing.proofs.reading.next_record.Given as given
 abbrev pub Inv-loop-place : given.InvT-loop-place
 Inv-loop-place g l =
     let verdict = g .F·Framing .verdict (l .framing) in
-    (rs : List Found) (e : ℕ) → Reading verdict (l .closed) (l .bytes) (l .place) rs e → Reading verdict (l .closed) (l .bytes) (l .from) rs e
+    (l .from ≤ l .place) × ((rs : List Found) (e : ℕ) → Reading verdict (l .closed) (l .bytes) (l .place) rs e → Reading verdict (l .closed) (l .bytes) (l .from) rs e)
 
 abbrev pub μ-loop-place : given.MeasureT-loop-place
 μ-loop-place g l = length (l .bytes) - l .place

@@ -1,0 +1,27 @@
+// What the programs share: their arguments and their standard input.
+use std::env;
+use std::error::AnyError;
+use std::io::Read;
+
+// Whether a program that takes no argument should do its work: `--help` only prints its usage, and any other argument is an error.
+pub fn starts(rt: &LibcRuntime, usage: &str) -> Result<bool, AnyError> {
+    for (i, arg) in env::args(rt)?.enumerate() {
+        if i == 0 {
+            continue;
+        }
+        if arg.as_str() == "--help" || arg.as_str() == "-h" {
+            rt.println(usage)?;
+            return Ok(false);
+        }
+        rt.eprintln(usage)?;
+        return Err("an argument that is not known".into());
+    }
+    Ok(true)
+}
+
+// All of standard input.
+pub fn read_all(rt: &LibcRuntime) -> Result<Vec<u8>, AnyError> {
+    let mut bytes = Vec::new(rt.alloc());
+    rt.stdin().read_to_end(&mut bytes)?;
+    Ok(bytes)
+}
