@@ -3,13 +3,13 @@ use console::read_all;
 use console::starts;
 use framing::binary::Binary;
 use framing::binary::BinaryFraming;
-use framing::listing::frame_text;
-use framing::listing::list_frames;
-use framing::listing::totals_text;
 use framing::pair::Pair;
 use framing::pair::PairFraming;
 use framing::sentence::Sentence;
 use framing::sentence::SentenceFraming;
+use reading::listing::frame_text;
+use reading::listing::list_frames;
+use reading::listing::totals_text;
 use std::error::AnyError;
 use std::io::BufWriter;
 use std::io::Write;
@@ -24,7 +24,10 @@ fn run(rt: &LibcRuntime) -> Result<(), AnyError> {
     }
     let heap = rt.alloc();
     let bytes = read_all(rt)?;
-    let framing = Pair { first: Binary, second: Sentence };
+    let framing = Pair {
+        first: Binary,
+        second: Sentence,
+    };
     let listing = list_frames(heap, &framing, &bytes)?;
     let mut out = BufWriter::new(rt.stdout());
     for frame in listing.frames.iter() {

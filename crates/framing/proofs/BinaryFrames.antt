@@ -61,14 +61,14 @@ to-frame series d rest few =
     let there : 10 + word (header-of series d) 4 ≤ length s = omega (arith, length-append d rest, size) in
     let same : take (word (header-of series d) 4) (d ++ rest) ≡ d = take-at d rest _ (sym size) in
     let sum : eqb (checksum (take (word (header-of series d) 4) (d ++ rest))) (word (header-of series d) 6) ≡ true =
-        eq-eqb _ _ (ap checksum same ∙ sym (whole (checksum d))) in
+    eq-eqb _ _ (ap checksum same ∙ sym (whole (checksum d))) in
     binary-data s refl refl (header-right series d few) there
     ∙ ap (λ b. cond b (Frame (10 + word (header-of series d) 4) 1) NoFrame) sum ∙ ap (λ n. Frame (10 + n) 1) size
 
 -- the other way: ten bytes that pass the tests are the header of the data that they announce
 header-is : (x0 x1 x2 x3 x4 x5 x6 x7 x8 x9 : ℕ) (d : List ℕ)
     → let h : List ℕ = x0 ∷ (x1 ∷ (x2 ∷ (x3 ∷ (x4 ∷ (x5 ∷ (x6 ∷ (x7 ∷ (x8 ∷ (x9 ∷ []))))))))) in
-      x0 ≡ 0xA5 → x1 ≡ 10 → headed h ≡ true → x4 < 256 → x6 < 256 → x8 < 256 → length d ≡ word h 4 → checksum d ≡ word h 6 → h ≡ header-of x2 d
+    x0 ≡ 0xA5 → x1 ≡ 10 → headed h ≡ true → x4 < 256 → x6 < 256 → x8 < 256 → length d ≡ word h 4 → checksum d ≡ word h 6 → h ≡ header-of x2 d
 header-is x0 x1 x2 x3 x4 x5 x6 x7 x8 x9 d a b right l4 l6 l8 size sum =
     let tests = and-parts (eqb x3 0x10) _ right in
     let family : x3 ≡ 0x10 = eqb-true x3 0x10 (tests .0) in
@@ -78,9 +78,9 @@ header-is x0 x1 x2 x3 x4 x5 x6 x7 x8 x9 d a b right l4 l6 l8 size sum =
     let p6 : x6 ∷ (x7 ∷ []) ≡ bytes-of (checksum d) = parts x6 x7 (checksum d) l6 (sym sum) in
     let p8 : x8 ∷ (x9 ∷ []) ≡ bytes-of (checksum front) = parts x8 x9 (checksum front) l8 last in
     let same : front ≡ header-front x2 d =
-        ap (λ x. x ∷ (x1 ∷ (x2 ∷ (x3 ∷ (x4 ∷ (x5 ∷ (x6 ∷ (x7 ∷ [])))))))) a ∙ ap (λ x. 0xA5 ∷ (x ∷ (x2 ∷ (x3 ∷ (x4 ∷ (x5 ∷ (x6 ∷ (x7 ∷ [])))))))) b
-        ∙ ap (λ x. 0xA5 ∷ (10 ∷ (x2 ∷ (x ∷ (x4 ∷ (x5 ∷ (x6 ∷ (x7 ∷ [])))))))) family
-        ∙ ap (λ x. 0xA5 ∷ (10 ∷ (x2 ∷ (0x10 ∷ (x ++ (x6 ∷ (x7 ∷ []))))))) p4 ∙ ap (λ x. 0xA5 ∷ (10 ∷ (x2 ∷ (0x10 ∷ (bytes-of (length d) ++ x))))) p6 in
+    ap (λ x. x ∷ (x1 ∷ (x2 ∷ (x3 ∷ (x4 ∷ (x5 ∷ (x6 ∷ (x7 ∷ [])))))))) a ∙ ap (λ x. 0xA5 ∷ (x ∷ (x2 ∷ (x3 ∷ (x4 ∷ (x5 ∷ (x6 ∷ (x7 ∷ [])))))))) b
+    ∙ ap (λ x. 0xA5 ∷ (10 ∷ (x2 ∷ (x ∷ (x4 ∷ (x5 ∷ (x6 ∷ (x7 ∷ [])))))))) family
+    ∙ ap (λ x. 0xA5 ∷ (10 ∷ (x2 ∷ (0x10 ∷ (x ++ (x6 ∷ (x7 ∷ []))))))) p4 ∙ ap (λ x. 0xA5 ∷ (10 ∷ (x2 ∷ (0x10 ∷ (bytes-of (length d) ++ x))))) p6 in
     ap (λ t. front ++ t) p8 ∙ ap (λ f. f ++ bytes-of (checksum f)) same
 
 module _ (s : List ℕ) (n k : ℕ) (typed : (i : ℕ) → getD s i 0 < 256) where
@@ -109,17 +109,18 @@ module _ (s : List ℕ) (n k : ℕ) (typed : (i : ℕ) → getD s i 0 < 256) whe
       let listed = ten s (f .0) in
       let hh : List ℕ = getD s 0 0 ∷ (getD s 1 0 ∷ (getD s 2 0 ∷ (getD s 3 0 ∷ (getD s 4 0 ∷ (getD s 5 0 ∷ (getD s 6 0 ∷ (getD s 7 0 ∷ (getD s 8 0 ∷ (getD s 9 0 ∷ []))))))))) in
       let is = header-is (getD s 0 0) (getD s 1 0) (getD s 2 0) (getD s 3 0) (getD s 4 0) (getD s 5 0) (getD s 6 0) (getD s 7 0) (getD s 8 0) (getD s 9 0) content
-          (sym (getD-take 1 s 0 0 (omega arith)) ∙ eqb-true _ _ (b .0)) (sym (getD-take 2 s 1 0 (omega arith)) ∙ eqb-true _ _ (d .0))
-          (subst (λ x. headed x ≡ true) listed (g .0)) (typed 4) (typed 6) (typed 8)
-          (long ∙ ap (λ x. word x 4) listed) (sum ∙ ap (λ x. word x 6) listed) in
+      (sym (getD-take 1 s 0 0 (omega arith)) ∙ eqb-true _ _ (b .0)) (sym (getD-take 2 s 1 0 (omega arith)) ∙ eqb-true _ _ (d .0))
+      (subst (λ x. headed x ≡ true) listed (g .0)) (typed 4) (typed 6) (typed 8)
+      (long ∙ ap (λ x. word x 4) listed) (sum ∙ ap (λ x. word x 6) listed) in
       let right = headed-size h (g .0) in
       let all : s ≡ header-of (getD s 2 0) content ++ (content ++ drop w (drop 10 s)) =
-          sym (take-append-drop 10 s) ∙ ap (λ x. x ++ drop 10 s) (listed ∙ is)
-          ∙ ap (λ x. header-of (getD s 2 0) content ++ x) (sym (take-append-drop w (drop 10 s))) in
+      sym (take-append-drop 10 s) ∙ ap (λ x. x ++ drop 10 s) (listed ∙ is)
+      ∙ ap (λ x. header-of (getD s 2 0) content ++ x) (sym (take-append-drop w (drop 10 s))) in
       (sym (frame-kind last), record { series = getD s 2 0; content = content; rest = drop w (drop 10 s); fits = omega arith; begins = all; long = omega (arith, frame-len last) })
 
 pub exactly-frames : (s : List ℕ) → ((i : ℕ) → getD s i 0 < 256) → Exactly-frames s (judged binary s)
-exactly-frames s typed n k =
-    (from-frame s n k typed,
-     λ one f. subst (λ x. judged binary x ≡ Frame n k) (sym (f .begins))
-       (to-frame (f .series) (f .content) (f .rest) (f .fits) ∙ ap (λ m. Frame m 1) (sym (f .long)) ∙ ap (λ j. Frame n j) (sym one)))
+exactly-frames s typed n k = (
+  from-frame s n k typed,
+  λ one f. subst (λ x. judged binary x ≡ Frame n k) (sym (f .begins))
+      (to-frame (f .series) (f .content) (f .rest) (f .fits) ∙ ap (λ m. Frame m 1) (sym (f .long)) ∙ ap (λ j. Frame n j) (sym one)),
+)

@@ -34,9 +34,11 @@ abbrev pub after-sync : Plan
 after-sync = await 2 λ s. given (eqb (getD s 1 0) 10) header
 
 binary-sound : Sound 8192 0 binary
-binary-sound =
-    (omega arith, λ s _. given-sound (eqb (getD s 0 0) 0xA5) after-sync 8192 1
-      (λ _. (omega arith, λ s _. given-sound (eqb (getD s 1 0) 10) header 8192 2 (λ _. header-sound))))
+binary-sound = (
+  omega arith,
+  λ s _. given-sound (eqb (getD s 0 0) 0xA5) after-sync 8192 1
+      (λ _. (omega arith, λ s _. given-sound (eqb (getD s 1 0) 10) header 8192 2 (λ _. header-sound))),
+)
 
 pub binary-lawful : Laws (judged binary) 8192
 binary-lawful = lawful binary 8192 binary-sound refl (omega arith) (omega arith)

@@ -4,7 +4,5 @@ pub mod BinaryPlan
 pub mod Choice
 pub mod SentencePlan
 pub mod Pairs
-pub mod Readings
 pub mod BinaryFrames
 pub mod SentenceFrames
-pub mod Lists

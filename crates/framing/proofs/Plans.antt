@@ -71,7 +71,7 @@ within (await m go) reach seen h s l n k e =
     awaited (ltb (length s) m) (judged (go (take m s)) s) (Frame n k) (Fits reach s n)
     (λ _ w. absurd (clash-short n k w))
     (λ b. let there : m ≤ length s = ltb-false (length s) m b in
-      within (go (take m s)) reach (max seen m) (h .1 (take m s) (length-take-le m s there)) s (omega arith) n k)
+    within (go (take m s)) reach (max seen m) (h .1 (take m s) (length-take-le m s there)) s (omega arith) n k)
     e
 within (span from test most go) reach seen h s l n k e =
     let m = leading test (drop from s) in
@@ -79,7 +79,7 @@ within (span from test most go) reach seen h s l n k e =
     (λ _ w. absurd (clash-no n k (sym w)))
     (λ _ _ w. absurd (clash-short n k w))
     (λ b f. let past : from + m < length s = ltb-true (from + m) (length s) b in
-      within (go m) reach (max seen (from + m + 1)) (h .2 m (leb-true m most f)) s (omega arith) n k)
+    within (go m) reach (max seen (from + m + 1)) (h .2 m (leb-true m most f)) s (omega arith) n k)
     e
 
 decided : (p : Plan) (reach seen : ℕ) → Sound reach seen p → (s : List ℕ) → seen ≤ length s → reach ≤ length s → judged p s ≡ Short → ⊥
@@ -89,7 +89,7 @@ decided (await m go) reach seen h s l r e =
     awaited (ltb (length s) m) (judged (go (take m s)) s) Short ⊥
     (λ b _. let less : length s < m = ltb-true (length s) m b in omega arith)
     (λ b. let there : m ≤ length s = ltb-false (length s) m b in
-      decided (go (take m s)) reach (max seen m) (h .1 (take m s) (length-take-le m s there)) s (omega arith) r)
+    decided (go (take m s)) reach (max seen m) (h .1 (take m s) (length-take-le m s there)) s (omega arith) r)
     e
 decided (span from test most go) reach seen h s l r e =
     let m = leading test (drop from s) in
@@ -97,7 +97,7 @@ decided (span from test most go) reach seen h s l r e =
     (λ _ w. clash-both (sym w))
     (λ b f _. let few : m ≤ most = leb-true m most f in let end : length s ≤ from + m = ltb-false (from + m) (length s) b in omega arith)
     (λ b f. let past : from + m < length s = ltb-true (from + m) (length s) b in
-      decided (go m) reach (max seen (from + m + 1)) (h .2 m (leb-true m most f)) s (omega arith) r)
+    decided (go m) reach (max seen (from + m + 1)) (h .2 m (leb-true m most f)) s (omega arith) r)
     e
 
 Kept : Plan → List ℕ → List ℕ → Type 0
@@ -111,12 +111,12 @@ stays (await m go) reach seen h s t l d =
     awaited (ltb (length s) m) (judged (go (take m s)) s) (judged (await m go) s) (Kept (await m go) s t)
     (λ _ w. absurd (d w))
     (λ b v. let there : m ≤ length s = ltb-false (length s) m b in
-      let longer : ltb (length (s ++ t)) m ≡ false = le-ltb (length (s ++ t)) m (simp length-append (omega arith)) in
-      let not-short : judged (go (take m s)) s ≡ Short → ⊥ = λ w. d (sym v ∙ w) in
-      let on : judged (go (take m s)) (s ++ t) ≡ judged (go (take m s)) s =
-          stays (go (take m s)) reach (max seen m) (h .1 (take m s) (length-take-le m s there)) s t (omega arith) not-short in
-      ap (λ x. cond x Short (judged (go (take m (s ++ t))) (s ++ t))) longer
-      ∙ ap (λ x. judged (go x) (s ++ t)) (take-append-le m s t there) ∙ on ∙ v)
+    let longer : ltb (length (s ++ t)) m ≡ false = le-ltb (length (s ++ t)) m (simp length-append (omega arith)) in
+    let not-short : judged (go (take m s)) s ≡ Short → ⊥ = λ w. d (sym v ∙ w) in
+    let on : judged (go (take m s)) (s ++ t) ≡ judged (go (take m s)) s =
+    stays (go (take m s)) reach (max seen m) (h .1 (take m s) (length-take-le m s there)) s t (omega arith) not-short in
+    ap (λ x. cond x Short (judged (go (take m (s ++ t))) (s ++ t))) longer
+    ∙ ap (λ x. judged (go x) (s ++ t)) (take-append-le m s t there) ∙ on ∙ v)
     refl
 stays (span from test most go) reach seen h s t l d =
     let m = leading test (drop from s) in
@@ -125,18 +125,18 @@ stays (span from test most go) reach seen h s t l d =
     let longer : m′ ≡ leading test (drop from s ++ t) = ap (leading test) (drop-append-le from s t from-there) in
     counted (ltb (from + m) (length s)) (leb m most) (judged (go m) s) (judged (span from test most go) s) (Kept (span from test most go) s t)
     (λ f w. let many : most < m = leb-false m most f in
-      let many′ : leb m′ most ≡ false = lt-leb m′ most (omega (arith, longer, leading-more test (drop from s) t)) in
-      ap (λ x. spanned (ltb (from + m′) (length (s ++ t))) x (judged (go m′) (s ++ t))) many′ ∙ sym w)
+    let many′ : leb m′ most ≡ false = lt-leb m′ most (omega (arith, longer, leading-more test (drop from s) t)) in
+    ap (λ x. spanned (ltb (from + m′) (length (s ++ t))) x (judged (go m′) (s ++ t))) many′ ∙ sym w)
     (λ _ _ w. absurd (d w))
     (λ b f v. let past : from + m < length s = ltb-true (from + m) (length s) b in
-      let ended : m < length (drop from s) = simp length-drop (omega arith) in
-      let same : m′ ≡ m = longer ∙ leading-ended test (drop from s) t ended in
-      let past′ : ltb (from + m) (length (s ++ t)) ≡ true = lt-ltb (from + m) (length (s ++ t)) (simp length-append (omega arith)) in
-      let on : judged (go m) (s ++ t) ≡ judged (go m) s =
-          stays (go m) reach (max seen (from + m + 1)) (h .2 m (leb-true m most f)) s t (omega arith) (λ w. d (sym v ∙ w)) in
-      ap (λ x. spanned (ltb (from + x) (length (s ++ t))) (leb x most) (judged (go x) (s ++ t))) same
-      ∙ ap (λ x. spanned x (leb m most) (judged (go m) (s ++ t))) past′
-      ∙ ap (λ x. spanned true x (judged (go m) (s ++ t))) f ∙ on ∙ v)
+    let ended : m < length (drop from s) = simp length-drop (omega arith) in
+    let same : m′ ≡ m = longer ∙ leading-ended test (drop from s) t ended in
+    let past′ : ltb (from + m) (length (s ++ t)) ≡ true = lt-ltb (from + m) (length (s ++ t)) (simp length-append (omega arith)) in
+    let on : judged (go m) (s ++ t) ≡ judged (go m) s =
+    stays (go m) reach (max seen (from + m + 1)) (h .2 m (leb-true m most f)) s t (omega arith) (λ w. d (sym v ∙ w)) in
+    ap (λ x. spanned (ltb (from + x) (length (s ++ t))) (leb x most) (judged (go x) (s ++ t))) same
+    ∙ ap (λ x. spanned x (leb m most) (judged (go m) (s ++ t))) past′
+    ∙ ap (λ x. spanned true x (judged (go m) (s ++ t))) f ∙ on ∙ v)
     refl
 
 -- a plan that goes on only where a test holds

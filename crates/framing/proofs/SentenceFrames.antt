@@ -133,12 +133,12 @@ tail-is text t n k there e =
     let star : getD t 0 0 ≡ 42 = eqb-true _ _ (b .0) in
     let r : List ℕ = drop 5 t in
     let list : t ≡ 42 ∷ (hexDigit (x / 16) ∷ (hexDigit (x % 16) ∷ (13 ∷ (10 ∷ r)))) =
-        five t enough
-        ∙ ap (λ y. y ∷ (getD t 1 0 ∷ (getD t 2 0 ∷ (getD t 3 0 ∷ (getD t 4 0 ∷ r))))) star
-        ∙ ap (λ y. 42 ∷ (y ∷ (getD t 2 0 ∷ (getD t 3 0 ∷ (getD t 4 0 ∷ r))))) d1
-        ∙ ap (λ y. 42 ∷ (hexDigit (x / 16) ∷ (y ∷ (getD t 3 0 ∷ (getD t 4 0 ∷ r))))) d2
-        ∙ ap (λ y. 42 ∷ (hexDigit (x / 16) ∷ (hexDigit (x % 16) ∷ (y ∷ (getD t 4 0 ∷ r))))) cr
-        ∙ ap (λ y. 42 ∷ (hexDigit (x / 16) ∷ (hexDigit (x % 16) ∷ (13 ∷ (y ∷ r))))) lf in
+    five t enough
+    ∙ ap (λ y. y ∷ (getD t 1 0 ∷ (getD t 2 0 ∷ (getD t 3 0 ∷ (getD t 4 0 ∷ r))))) star
+    ∙ ap (λ y. 42 ∷ (y ∷ (getD t 2 0 ∷ (getD t 3 0 ∷ (getD t 4 0 ∷ r))))) d1
+    ∙ ap (λ y. 42 ∷ (hexDigit (x / 16) ∷ (y ∷ (getD t 3 0 ∷ (getD t 4 0 ∷ r))))) d2
+    ∙ ap (λ y. 42 ∷ (hexDigit (x / 16) ∷ (hexDigit (x % 16) ∷ (y ∷ (getD t 4 0 ∷ r))))) cr
+    ∙ ap (λ y. 42 ∷ (hexDigit (x / 16) ∷ (hexDigit (x % 16) ∷ (13 ∷ (y ∷ r))))) lf in
     (leb-true 1 (length text) (a .0), list, d .1)
 
 from-frame : (s : List ℕ) (n k : ℕ) → judged sentence s ≡ Frame n k → (k ≡ 2) × Framed s n
@@ -154,23 +154,26 @@ from-frame s n k e =
     let long : length text ≡ m = simp (length-take, length-drop) (omega arith) in
     let there : 0 < length tail = simp length-drop (omega arith) in
     let all : s ≡ 36 ∷ (text ++ tail) =
-        drop-more s 0 0 (omega arith) ∙ ap (λ x. x ∷ drop 1 s) dollar ∙ ap (λ x. 36 ∷ x) (sym (take-append-drop m (drop 1 s))) in
+    drop-more s 0 0 (omega arith) ∙ ap (λ x. x ∷ drop 1 s) dollar ∙ ap (λ x. 36 ∷ x) (sym (take-append-drop m (drop 1 s))) in
     let closed : judged (closing (length text)) (36 ∷ (text ++ tail)) ≡ Frame n k =
-        ap (λ i. judged (closing i) (36 ∷ (text ++ tail))) long ∙ ap (judged (closing m)) (sym all) ∙ f .2 in
-    let t = tail-is text tail n k there closed in
-    (sym (frame-kind (t .2)), record {
-      text = text;
-      rest = drop 5 tail;
-      some = t .0;
-      fits = omega (arith, f .1);
-      printable = front-all (drop 1 s);
-      begins = all ∙ ap (λ x. 36 ∷ (text ++ x)) (t .1) ∙ ap (λ x. 36 ∷ x) (sym (append-assoc text (42 ∷ (hexDigit (xorOf text / 16) ∷ (hexDigit (xorOf text % 16) ∷ (13 ∷ (10 ∷ []))))) (drop 5 tail)));
-      long = sym (frame-len (t .2));
-    })
+    ap (λ i. judged (closing i) (36 ∷ (text ++ tail))) long ∙ ap (judged (closing m)) (sym all) ∙ f .2 in
+    let t = tail-is text tail n k there closed in (
+      sym (frame-kind (t .2)),
+      record {
+        text = text;
+        rest = drop 5 tail;
+        some = t .0;
+        fits = omega (arith, f .1);
+        printable = front-all (drop 1 s);
+        begins = all ∙ ap (λ x. 36 ∷ (text ++ x)) (t .1) ∙ ap (λ x. 36 ∷ x) (sym (append-assoc text (42 ∷ (hexDigit (xorOf text / 16) ∷ (hexDigit (xorOf text % 16) ∷ (13 ∷ (10 ∷ []))))) (drop 5 tail)));
+        long = sym (frame-len (t .2));
+      },
+    )
 
 pub exactly-sentences : (s : List ℕ) → Exactly-sentences s (judged sentence s)
-exactly-sentences s n k =
-    (from-frame s n k,
-     λ two f. subst (λ x. judged sentence x ≡ Frame n k)
-       (sym (f .begins ∙ ap (λ x. 36 ∷ x) (append-assoc (f .text) (42 ∷ (hexDigit (xorOf (f .text) / 16) ∷ (hexDigit (xorOf (f .text) % 16) ∷ (13 ∷ (10 ∷ []))))) (f .rest))))
-       (to-frame (f .text) (f .rest) (f .some) (f .fits) (f .printable) ∙ ap (λ m. Frame m 2) (sym (f .long)) ∙ ap (λ j. Frame n j) (sym two)))
+exactly-sentences s n k = (
+  from-frame s n k,
+  λ two f. subst (λ x. judged sentence x ≡ Frame n k)
+      (sym (f .begins ∙ ap (λ x. 36 ∷ x) (append-assoc (f .text) (42 ∷ (hexDigit (xorOf (f .text) / 16) ∷ (hexDigit (xorOf (f .text) % 16) ∷ (13 ∷ (10 ∷ []))))) (f .rest))))
+      (to-frame (f .text) (f .rest) (f .some) (f .fits) (f .printable) ∙ ap (λ m. Frame m 2) (sym (f .long)) ∙ ap (λ j. Frame n j) (sym two)),
+)

@@ -26,10 +26,14 @@ abbrev starred : ℕ → Plan
 starred n = await (n + 2) λ s. given (eqb (getD s (n + 1) 0) 42) (ending n)
 
 closing-sound : (n : ℕ) → n ≤ 506 → Sound 512 (max 1 (1 + n + 1)) (closing n)
-closing-sound n few = given-sound (leb 1 n) (starred n) 512 _ λ _.
-    (omega arith, λ s _. given-sound (eqb (getD s (n + 1) 0) 42) (ending n) 512 _ λ _.
-    (omega arith, λ t _. given-sound (finished (xorOf (take n (drop 1 t))) (drop (n + 2) t)) (frame (n + 6) 2) 512 _ λ _.
-    (omega arith, omega arith, omega arith)))
+closing-sound n few = given-sound (leb 1 n) (starred n) 512 _ λ _. (
+  omega arith,
+  λ s _. given-sound (eqb (getD s (n + 1) 0) 42) (ending n) 512 _ λ _. (
+    omega arith,
+    λ t _. given-sound (finished (xorOf (take n (drop 1 t))) (drop (n + 2) t)) (frame (n + 6) 2) 512 _ λ _.
+        (omega arith, omega arith, omega arith),
+  ),
+)
 
 pub sentence-lawful : Laws (judged sentence) 512
 sentence-lawful = lawful sentence 512 sound refl (omega arith) (omega arith)
@@ -45,6 +49,7 @@ judged-cond false p s = refl
 module _ (text tail : List ℕ) (there : 0 < length tail) where
   abbrev n : ℕ
   n = length text
+
   abbrev s : List ℕ
   s = 36 ∷ (text ++ tail)
 
@@ -74,9 +79,9 @@ module _ (text tail : List ℕ) (there : 0 < length tail) where
       let waits : ltb (length s) (n + 6) ≡ ltb (length tail) 5 = grind (arith, tells, long) in
       ap (λ b. cond b Short (judged (given (finished (xorOf (take n (drop 1 (take (n + 6) s)))) (drop (n + 2) (take (n + 6) s))) (frame (n + 6) 2)) s)) waits
       ∙ ap (λ v. cond (ltb (length tail) 5) Short v)
-        (judged-last (finished (xorOf (take n (drop 1 (take (n + 6) s)))) (drop (n + 2) (take (n + 6) s))) (n + 6) 2 s
-        ∙ ap (λ x. cond (finished (xorOf x) (drop (n + 2) (take (n + 6) s))) (Frame (n + 6) 2) NoFrame) text-at
-        ∙ ap (λ x. cond (finished (xorOf text) x) (Frame (n + 6) 2) NoFrame) end-at)
+      (judged-last (finished (xorOf (take n (drop 1 (take (n + 6) s)))) (drop (n + 2) (take (n + 6) s))) (n + 6) 2 s
+      ∙ ap (λ x. cond (finished (xorOf x) (drop (n + 2) (take (n + 6) s))) (Frame (n + 6) 2) NoFrame) text-at
+      ∙ ap (λ x. cond (finished (xorOf text) x) (Frame (n + 6) 2) NoFrame) end-at)
 
   -- the verdict on `$`, a payload and what comes behind it
   pub closing-is : judged (closing n) s ≡ cond (leb 1 n) (cond (eqb (getD tail 0 0) 42) (cond (ltb (length tail) 5) Short (cond (finished (xorOf text) (take 4 (drop 1 tail))) (Frame (n + 6) 2) NoFrame)) NoFrame) NoFrame
@@ -114,7 +119,7 @@ module _ (s : List ℕ) (first : 0 < length s) (dollar : getD s 0 0 ≡ 36) wher
   pub parts-are : (k : ℕ) → 1 ≤ k → k ≤ length s → 36 ∷ (take (k - 1) (drop 1 s) ++ take (length s - k) (drop k s)) ≡ s
   parts-are k low high =
       let rest : take (length s - k) (drop k s) ≡ drop (k - 1) (drop 1 s) =
-          take-rest s k ∙ ap (λ i. drop i s) {y = 1 + (k - 1)} (omega arith) ∙ sym (drop-drop (k - 1) 1 s) in
+      take-rest s k ∙ ap (λ i. drop i s) {y = 1 + (k - 1)} (omega arith) ∙ sym (drop-drop (k - 1) 1 s) in
       ap (λ t. 36 ∷ (take (k - 1) (drop 1 s) ++ t)) rest ∙ ap (λ t. 36 ∷ t) (take-append-drop (k - 1) (drop 1 s))
       ∙ ap (λ x. x ∷ drop 1 s) (sym dollar) ∙ sym (drop-more s 0 0 first)
 

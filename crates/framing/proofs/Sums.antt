@@ -13,7 +13,7 @@ pub words-more : (s : List ℕ) (i : ℕ) → i + 1 < length s → words (drop i
 words-more s i h =
     let l : i < length s = omega arith in
     let two : drop i s ≡ getD s i 0 ∷ (getD s (i + 1) 0 ∷ drop (i + 1 + 1) s) =
-        drop-more s i 0 l ∙ ap (λ t. getD s i 0 ∷ t) (drop-more s (i + 1) 0 h) in
+    drop-more s i 0 l ∙ ap (λ t. getD s i 0 ∷ t) (drop-more s (i + 1) 0 h) in
     ap words two
 
 pub words-last : (s : List ℕ) (i : ℕ) → i + 1 ≡ length s → words (drop i s) ≡ 256 * getD s i 0

@@ -3,5 +3,3 @@ pub mod Verdicts
 pub mod Plan
 pub mod Binary
 pub mod Sentence
-pub mod Reading
-pub mod Listed

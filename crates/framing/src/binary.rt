@@ -14,10 +14,15 @@ use crate::verdict::Framing;
 use crate::verdict::Verdict;
 
 const SYNC: u8 = 0xA5;
+
 const HEADER: usize = 10;
+
 const HEADER_BYTE: u8 = 10;
+
 const FAMILY: u8 = 0x10;
+
 const MOST_DATA: usize = 8182;
+
 const KIND: u8 = 1;
 
 #[derive(Clone, Copy, Debug)]
@@ -51,7 +56,10 @@ fn data_verdict(header: &[u8], body: &[u8]) -> Verdict
     if checksum_of(body) != word_of(header[6], header[7]) {
         return Verdict::NoFrame;
     }
-    Verdict::Frame { len: HEADER + body.len(), kind: KIND }
+    Verdict::Frame {
+        len: HEADER + body.len(),
+        kind: KIND,
+    }
 }
 
 // The verdict on some bytes, step by step.

@@ -1,8 +1,6 @@
-// Framings of the AD2CP byte stream: where a frame begins and ends, when more bytes must be awaited, and the reading of a whole stream.
-pub mod checksum;
-pub mod verdict;
+// Framings of the AD2CP byte stream: where a frame begins and ends, and when more bytes must be awaited.
 pub mod binary;
-pub mod sentence;
+pub mod checksum;
 pub mod pair;
-pub mod reading;
-pub mod listing;
+pub mod sentence;
+pub mod verdict;

@@ -10,6 +10,7 @@ use crate::verdict::Framing;
 use crate::verdict::Verdict;
 
 const MOST_PAYLOAD: usize = 506;
+
 const KIND: u8 = 2;
 
 #[derive(Clone, Copy, Debug)]
@@ -65,7 +66,9 @@ fn is_finished(sum: u8, end: &[u8]) -> bool
     ensures { λ r. ⌜ r ≡ finished sum (now (end .entry)) ⌝ }
 {
     match (hex_value(end[0] as char), hex_value(end[1] as char)) {
-        (Some(high), Some(low)) => 16 * (high as u16) + low as u16 == sum as u16 && end[2] == b'\r' && end[3] == b'\n',
+        (Some(high), Some(low)) => 16 * (high as u16) + low as u16 == sum as u16
+            && end[2] == b'\r'
+            && end[3] == b'\n',
         _ => false,
     }
 }
@@ -82,7 +85,10 @@ fn close(text: &[u8], tail: &[u8]) -> Verdict
         return Verdict::Short;
     }
     if is_finished(xor_of(text), &tail[1..5]) {
-        Verdict::Frame { len: text.len() + 6, kind: KIND }
+        Verdict::Frame {
+            len: text.len() + 6,
+            kind: KIND,
+        }
     } else {
         Verdict::NoFrame
     }

@@ -1,0 +1,3 @@
+pub mod Reading
+pub mod Listed
+pub mod Steps
