@@ -1,0 +1,5 @@
+pub mod Works
+pub mod Progress
+pub mod Histories
+pub mod Turns
+pub mod Views

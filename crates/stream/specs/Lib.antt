@@ -1,0 +1,4 @@
+pub mod Answers
+pub mod View
+pub mod History
+pub mod Law

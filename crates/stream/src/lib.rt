@@ -1,0 +1,4 @@
+// The intake of a stream: bytes are delivered, records are taken into a register, and the law says that nothing is lost or made up.
+pub mod answers;
+pub mod intake;
+pub mod calls;
