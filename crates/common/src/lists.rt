@@ -3,7 +3,7 @@ ghost use mathlib.Core.Path.{_≡_};
 ghost use mathlib.Core.Bool.{cond};
 ghost use mathlib.Core.List.{[], _∷_, _++_};
 ghost use denote.Ref.{name};
-ghost use lib.ListN.{length, set};
+ghost use lib.ListN.{length, drop, set};
 ghost use Rattle.std.specs.declared.result.Result.the-variants.{Ok, Err};
 ghost use Rattle.common.specs.Lists.{items, room, has-room, full};
 use crate::list::List;
@@ -46,6 +46,7 @@ impl<'a, T: Copy> List<'a, T> {
         ensures says { λ r. ⌜ r ≡ cond (has-room (now (self .entry))) (Ok tt) (Err full) ⌝ }
         ensures items { λ _. ⌜ items (now (self .exit)) ≡ cond (has-room (now (self .entry))) (items (now (self .entry)) ++ (x ∷ [])) (items (now (self .entry))) ⌝ }
         ensures table { λ _. ⌜ now (now (self .exit) .table) ≡ cond (has-room (now (self .entry))) (set (now (now (self .entry) .table)) (length (items (now (self .entry)))) x) (now (now (self .entry) .table)) ⌝ }
+        ensures rest { λ _. ⌜ drop (length (items (now (self .exit)))) (now (now (self .exit) .table)) ≡ drop (length (items (now (self .exit)))) (now (now (self .entry) .table)) ⌝ }
         ensures lends { λ _. ⌜ name (now (self .exit) .table) ≡ name (now (self .entry) .table) ⌝ }
     {
         if self.len >= self.table.len() {

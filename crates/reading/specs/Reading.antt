@@ -58,6 +58,7 @@ pub record Comes (verdict : List ℕ → Verdict) (closed : Bool) (s : List ℕ)
   pub behind : from ≤ place
   pub some : 1 ≤ len
   pub within : place + len ≤ length s
+  pub frame : verdict (drop place s) ≡ Frame len kind
   pub first : (rs : List Found) (e : ℕ) → Reading verdict closed s (place + len) rs e → Reading verdict closed s from (found s place len kind ∷ rs) e
 
 -- the next step of a reading from a place on: the record that comes first in it, or where it stops or ends without one

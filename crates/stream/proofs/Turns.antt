@@ -23,7 +23,7 @@ use Rattle.stream.specs.declared.answers.Fault.the-variants.{SpaceShort, Regis
 use Rattle.stream.specs.declared.answers.Taken.{Taken}
 use Rattle.stream.specs.declared.answers.Taken.the-variants.{Record, NotYet, Drained}
 use Rattle.stream.specs.Answers.{ask-deliver, ask-close, nothing}
-use Rattle.stream.specs.View.{View, new-view, Terms, Lawful, entry-of, Delivers, Closes, totals, base, found-at, Takes, short, full, brings, rests}
+use Rattle.stream.specs.View.{View, new-view, Terms, Lawful, entry-of, Delivers, Closes, totals, base, found-at, advanced, rested, Takes, short, full, brings, rests}
 use Rattle.stream.specs.History.{Turn, delivered, took, closing, looked, History, accepted, closed, brought, behind, Reads, Reached}
 use Rattle.stream.specs.Law as law
 use Rattle.stream.specs.Law.{Take-said, Said, Answered, totals-of}
@@ -195,11 +195,8 @@ module _ {t : Terms} {h : History} {v : View} {es : List Entry} (k : Held t h v 
   }
 
   -- a take that finds no record
-  abbrev rested : ℕ → View
-  rested e = record { waiting = drop e (v .waiting); accepted = v .accepted; registered = v .registered; records = v .records; closed = v .closed }
-
   rests-held : (x : List ℕ) (e : ℕ) → t .reach ≤ length x → length es < t .room → Reading (t .verdict) (v .closed) (v .waiting) 0 [] e
-      → Held t (took x x (Ok (nothing (closed h))) ∷ h) (rested e) es
+      → Held t (took x x (Ok (nothing (closed h))) ∷ h) (rested v e) es
   unfolding with-take
   rests-held x e a b r =
       let laws = k .lawful .framing in
@@ -227,17 +224,8 @@ module _ {t : Terms} {h : History} {v : View} {es : List Entry} (k : Held t h v 
       }
 
   -- a take that brings a record
-  abbrev advanced : ℕ → ℕ → View
-  advanced place len = record {
-    waiting = drop (place + len) (v .waiting);
-    accepted = v .accepted;
-    registered = v .registered + len;
-    records = v .records + 1;
-    closed = v .closed;
-  }
-
   brings-held : (x : List ℕ) (place len kind : ℕ) → t .reach ≤ length x → length es < t .room → Comes (t .verdict) (v .closed) (v .waiting) 0 place len kind
-      → Held t (took x (take len (drop place (v .waiting)) ++ drop len x) (Ok (Record (entry-of t (found-at v place len kind)))) ∷ h) (advanced place len)
+      → Held t (took x (take len (drop place (v .waiting)) ++ drop len x) (Ok (Record (entry-of t (found-at v place len kind)))) ∷ h) (advanced v place len)
         (es ++ (entry-of t (found-at v place len kind) ∷ []))
   unfolding with-take
   brings-held x place len kind a b c =

@@ -16,7 +16,9 @@ use Rattle.format.specs.Meaning.{Meaning, Laws as Format-laws}
 use Rattle.stream.specs.declared.answers.Fault.{Fault}
 use Rattle.stream.specs.declared.answers.Fault.the-variants.{SpaceShort, RegisterFull}
 use Rattle.stream.specs.declared.answers.Taken.{Taken}
-use Rattle.stream.specs.declared.answers.Taken.the-variants.{Record}
+use Rattle.stream.specs.declared.answers.Taken.the-variants.{Record as Brought}
+use Rattle.reading.specs.declared.steps.Next.{Next}
+use Rattle.reading.specs.declared.steps.Next.the-variants.{Record, End}
 use Rattle.stream.specs.declared.intake.Intake.{Intake}
 use Rattle.stream.specs.Answers.{ask-deliver, ask-close, nothing, most-entries}
 
@@ -55,16 +57,19 @@ pub record Lawful (t : Terms) : Type 0 where
 abbrev pub terms : (List ℕ → Verdict) → ℕ → (ℕ → List ℕ → Meaning) → ℕ → Terms
 terms v r m n = record { verdict = v; reach = r; meaning = m; room = min most-entries n }
 
--- the entry of a record
-abbrev pub entry-of : Terms → Found → Entry
-entry-of t f = record {
+-- the entry of a record, by what the formats mean
+abbrev pub entry-by : (ℕ → List ℕ → Meaning) → Found → Entry
+entry-by meaning f = record {
   place = f .place;
   len = length (f .bytes);
   kind = f .kind;
   series = seriesOf (f .kind) (f .bytes);
-  verdict = t .meaning (f .kind) (f .bytes) .judgement .number;
-  fault = t .meaning (f .kind) (f .bytes) .judgement .place;
+  verdict = meaning (f .kind) (f .bytes) .judgement .number;
+  fault = meaning (f .kind) (f .bytes) .judgement .place;
 }
+
+abbrev pub entry-of : Terms → Found → Entry
+entry-of t f = entry-by (t .meaning) f
 
 -- some bytes more, behind those that wait
 abbrev pub with-bytes : View → List ℕ → View
@@ -111,30 +116,42 @@ base v = v .accepted - length (v .waiting)
 abbrev pub found-at : View → ℕ → ℕ → ℕ → Found
 found-at v place len kind = record { place = base v + place; bytes = take len (drop place (v .waiting)); kind = kind }
 
+-- a place further on among the waiting bytes: a record of `len` bytes was brought, or bytes were only passed over
+abbrev pub advanced : View → ℕ → ℕ → View
+advanced v place len = record {
+  waiting = drop (place + len) (v .waiting);
+  accepted = v .accepted;
+  registered = v .registered + len;
+  records = v .records + 1;
+  closed = v .closed;
+}
+
+abbrev pub rested : View → ℕ → View
+rested v e = record {
+  waiting = drop e (v .waiting);
+  accepted = v .accepted;
+  registered = v .registered;
+  records = v .records;
+  closed = v .closed;
+}
+
+-- what comes next lies among the bytes from one place to another, and a record has no more bytes than the reach
+abbrev pub Next-within : ℕ → ℕ → ℕ → Next → Type 0
+Next-within start end reach (Record place len kind) = (start + (place + len) ≤ end) × (1 ≤ len) × (len ≤ reach)
+Next-within start end reach (End place) = start + place ≤ end
+
 -- what a take does to what the intake holds, to the register's entries and to the space
 pub data Takes (t : Terms) (before after : View) (es es′ : List Entry) (x y : List ℕ) (r : Result Taken Fault) : Type 0 where
   short : length x < t .reach → r ≡ Err SpaceShort → after ≡ before → es′ ≡ es → y ≡ x → Takes t before after es es′ x y r
   full : t .reach ≤ length x → t .room ≤ length es → r ≡ Err RegisterFull → after ≡ before → es′ ≡ es → y ≡ x → Takes t before after es es′ x y r
   brings : t .reach ≤ length x → length es < t .room → (place len kind : ℕ)
       → Comes (t .verdict) (before .closed) (before .waiting) 0 place len kind
-      → r ≡ Ok (Record (entry-of t (found-at before place len kind)))
-      → after ≡ record {
-          waiting = drop (place + len) (before .waiting);
-          accepted = before .accepted;
-          registered = before .registered + len;
-          records = before .records + 1;
-          closed = before .closed;
-        }
+      → r ≡ Ok (Brought (entry-of t (found-at before place len kind)))
+      → after ≡ advanced before place len
       → es′ ≡ es ++ (entry-of t (found-at before place len kind) ∷ [])
       → y ≡ take len (drop place (before .waiting)) ++ drop len x → Takes t before after es es′ x y r
   rests : t .reach ≤ length x → length es < t .room → (e : ℕ)
       → Reading (t .verdict) (before .closed) (before .waiting) 0 [] e
       → r ≡ Ok (nothing (before .closed))
-      → after ≡ record {
-          waiting = drop e (before .waiting);
-          accepted = before .accepted;
-          registered = before .registered;
-          records = before .records;
-          closed = before .closed;
-        }
+      → after ≡ rested before e
       → es′ ≡ es → y ≡ x → Takes t before after es es′ x y r

@@ -2,3 +2,4 @@
 pub mod answers;
 pub mod intake;
 pub mod calls;
+pub mod takes;

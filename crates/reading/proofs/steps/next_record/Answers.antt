@@ -21,6 +21,7 @@ returns-in-Take g c =
       behind = c .loop-place .inv .0;
       some = fits .0;
       within = omega (arith, fits .1, length-drop p s);
+      frame = seen;
       first = λ rs e r. c .loop-place .inv .1 _ e (takes (c .loop-place-test .taken) seen r);
     }
 

@@ -3,7 +3,7 @@ use Prim.Native.Nat.{_<_}
 use borrow.Author.Needs.{needs}
 use lib.ListN.{length}
 use Rattle.std.proofs.shelf.Tests.{cond-true}
-use Rattle.common.proofs.Pushes.{room-for, push-items, push-table}
+use Rattle.common.proofs.Pushes.{room-for, push-items, push-table, push-rest}
 use Rattle.common.proofs.list.List.push.Needs as need
 
 pub returns : need.returns
@@ -16,5 +16,6 @@ returns g c =
       says = sym (cond-true _ _ _ (room-for s n x less));
       items = push-items s n x less;
       table = push-table s n x less;
+      rest = push-rest s n x less;
       lends = search needs;
     }
