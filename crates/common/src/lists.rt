@@ -47,6 +47,7 @@ impl<'a, T: Copy> List<'a, T> {
         ensures items { λ _. ⌜ items (now (self .exit)) ≡ cond (has-room (now (self .entry))) (items (now (self .entry)) ++ (x ∷ [])) (items (now (self .entry))) ⌝ }
         ensures table { λ _. ⌜ now (now (self .exit) .table) ≡ cond (has-room (now (self .entry))) (set (now (now (self .entry) .table)) (length (items (now (self .entry)))) x) (now (now (self .entry) .table)) ⌝ }
         ensures rest { λ _. ⌜ drop (length (items (now (self .exit)))) (now (now (self .exit) .table)) ≡ drop (length (items (now (self .exit)))) (now (now (self .entry) .table)) ⌝ }
+        ensures room { λ _. ⌜ room (now (self .exit)) ≡ room (now (self .entry)) ⌝ }
         ensures lends { λ _. ⌜ name (now (self .exit) .table) ≡ name (now (self .entry) .table) ⌝ }
     {
         if self.len >= self.table.len() {

@@ -1,3 +1,4 @@
 pub mod Meaning
+pub mod Added
 pub mod Text
 pub mod Sentence

@@ -28,6 +28,11 @@ fields code start count (x ∷ s) =
     cond (eqb x star) (plain code start count ∷ [])
     (cond (eqb x comma) (plain code start count ∷ fields (code + 1) (start + count + 1) 0 s) (fields code start (count + 1) s))
 
+-- how many commas stand before the first `*`
+abbrev pub commas : List ℕ → ℕ
+commas [] = 0
+commas (x ∷ s) = cond (eqb x star) 0 (cond (eqb x comma) (1 + commas s) (commas s))
+
 -- the place of the comma behind this many others, before the first `*`; the bytes begin at `place`
 abbrev pub comma-at : ℕ → ℕ → List ℕ → Option ℕ
 comma-at others place [] = None

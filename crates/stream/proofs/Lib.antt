@@ -3,3 +3,5 @@ pub mod Progress
 pub mod Histories
 pub mod Turns
 pub mod Views
+pub mod Parts
+pub mod Carrying

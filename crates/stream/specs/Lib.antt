@@ -2,3 +2,5 @@ pub mod Answers
 pub mod View
 pub mod History
 pub mod Law
+pub mod Requests
+pub mod Theorems

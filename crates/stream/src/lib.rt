@@ -3,3 +3,4 @@ pub mod answers;
 pub mod intake;
 pub mod calls;
 pub mod takes;
+pub mod runs;

@@ -112,6 +112,7 @@ impl Intake {
     ) -> Result<Taken, Fault>
         ensures does { λ r. ⌜ Takes (terms (F·Framing .verdict (now (framing .entry))) (F·Framing .reach (now (framing .entry))) (G·Format .meaning (now (formats .entry))) (room (now (register .entry)))) (view (now (self .entry))) (view (now (self .exit))) (items (now (register .entry))) (items (now (register .exit))) (now (space .entry)) (now (space .exit)) r ⌝ }
         ensures rest { λ _. ⌜ drop (length (items (now (register .exit)))) (now (now (register .exit) .table)) ≡ drop (length (items (now (register .exit)))) (now (now (register .entry) .table)) ⌝ }
+        ensures room { λ _. ⌜ room (now (register .exit)) ≡ room (now (register .entry)) ⌝ }
         ensures lends { λ _. ⌜ name (now (register .exit) .table) ≡ name (now (register .entry) .table) ⌝ }
     {
         if space.len() < framing.limit() {
@@ -147,6 +148,7 @@ impl Intake {
     ) -> Result<Taken, Fault>
         ensures does { λ r. ⌜ Takes (terms (F·Framing .verdict (now (framing .entry))) (F·Framing .reach (now (framing .entry))) (G·Format .meaning (now (formats .entry))) (room (now (register .entry)))) (view (now (self .entry))) (view (now (self .exit))) (items (now (register .entry))) (items (now (register .exit))) (now (space .entry)) (now (space .exit)) r ⌝ }
         ensures rest { λ _. ⌜ drop (length (items (now (register .exit)))) (now (now (register .exit) .table)) ≡ drop (length (items (now (register .exit)))) (now (now (register .entry) .table)) ⌝ }
+        ensures room { λ _. ⌜ room (now (register .exit)) ≡ room (now (register .entry)) ⌝ }
         ensures lends { λ _. ⌜ name (now (register .exit) .table) ≡ name (now (register .entry) .table) ⌝ }
         ensures law { λ r. ⌜ ((h : History) → Tied (terms (F·Framing .verdict (now (framing .entry))) (F·Framing .reach (now (framing .entry))) (G·Format .meaning (now (formats .entry))) (room (now (register .entry)))) h (view (now (self .entry))) (items (now (register .entry))) → Tied (terms (F·Framing .verdict (now (framing .entry))) (F·Framing .reach (now (framing .entry))) (G·Format .meaning (now (formats .entry))) (room (now (register .entry)))) (took (now (space .entry)) (now (space .exit)) r ∷ h) (view (now (self .exit))) (items (now (register .exit)))) ⌝ }
     {

@@ -1,7 +1,7 @@
 use mathlib.Core.Path.{_≡_, sym}
 use Prim.Native.Nat.{_<_}
 use borrow.Author.Needs.{needs}
-use lib.ListN.{length}
+use lib.ListN.{length, length-set}
 use Rattle.std.proofs.shelf.Tests.{cond-true}
 use Rattle.common.proofs.Pushes.{room-for, push-items, push-table, push-rest}
 use Rattle.common.proofs.list.List.push.Needs as need
@@ -17,5 +17,6 @@ returns g c =
       items = push-items s n x less;
       table = push-table s n x less;
       rest = push-rest s n x less;
+      room = length-set s n x;
       lends = search needs;
     }

@@ -6,6 +6,7 @@ pub returns : need.returns
 returns g c = record {
   does = c .work-on .ensures .does;
   rest = c .work-on .ensures .rest;
+  room = c .work-on .ensures .room;
   lends = c .work-on .ensures .lends;
   law = λ h k. tied-of (take-held (held-of k) (c .work-on .ensures .does));
 }

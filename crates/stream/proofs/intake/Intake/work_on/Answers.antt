@@ -25,6 +25,7 @@ returns-in-Record g c =
           (ap (λ e. Ok (Record e)) entry) (c .advance .ensures)
           (c .push .ensures .items ∙ cond-true (ltb (length es) n) _ _ has ∙ ap (λ e. es ++ (e ∷ [])) entry) (c .copy-out .ensures);
       rest = c .push .ensures .rest;
+      room = c .push .ensures .room;
       lends = c .push .ensures .lends;
     }
 
@@ -37,5 +38,6 @@ returns-in-End g c =
     record {
       does = rests space free (c .in-End .place) (c .in-End .ensures tt .next) (ap Ok (c .without-record-answer .ensures)) (c .skip .ensures .view) refl refl;
       rest = refl;
+      room = refl;
       lends = refl;
     }

@@ -1,0 +1,6 @@
+pub mod Pairs
+pub mod Additions
+pub mod Texts
+pub mod Commas
+pub mod Fields
+pub mod Sentences

@@ -1,0 +1,40 @@
+use Prim.Native.Nat.{_-_, min}
+use mathlib.Core.Path.{_≡_, refl}
+use mathlib.Core.List.{_∷_}
+use native.Mathlib.Omega.{arith}
+use lib.ListN.{length, take, length-take}
+use Rattle.stream.specs.History.{took}
+use Rattle.stream.specs.Requests.{delivery, taking, close, tell}
+use Rattle.stream.proofs.Carrying.{one-turn}
+use Rattle.stream.proofs.runs.turn.Needs as need
+
+pub returns-in-Deliver : need.returns-in-Deliver
+returns-in-Deliver g c = record {
+  law = λ h k. (_ ∷ h, one-turn (c .in-Deliver .is) (delivery (c .part .ensures)), c .deliver .ensures .law _ h _ k);
+  room = refl;
+  lends = refl;
+}
+
+pub returns-in-Take : need.returns-in-Take
+returns-in-Take g c = record {
+  law = λ h k.
+    let x = take (c .min-lent .result - 0) (c .args .space .now) in
+    let long : length x ≡ min (c .in-Take .room) (length (c .args .space .now)) = simp length-take (omega (arith, c .min-lent .ensures)) in
+    (took x (c .take .last .space) (c .take .result) ∷ h, one-turn (c .in-Take .is) (taking long), c .take .ensures .law h k);
+  room = c .take .ensures .room;
+  lends = c .take .ensures .lends;
+}
+
+pub returns-in-Close : need.returns-in-Close
+returns-in-Close g c = record {
+  law = λ h k. (_ ∷ h, one-turn (c .in-Close .is) close, c .close .ensures .law _ h _ k);
+  room = refl;
+  lends = refl;
+}
+
+pub returns-in-Tell : need.returns-in-Tell
+returns-in-Tell g c = record {
+  law = λ h k. (_ ∷ h, one-turn (c .in-Tell .is) tell, c .tell .ensures .law _ h _ k);
+  room = refl;
+  lends = refl;
+}
