@@ -8,6 +8,7 @@ use lib.Dec.{leb}
 use lib.ListN.{length, take, drop, length-append}
 use Rattle.std.specs.shelf.Lists.{All}
 use Rattle.std.proofs.shelf.Elements.{all-weaker, all-append}
+use Rattle.std.proofs.shelf.Lists.{length-map}
 use Rattle.std.specs.declared.result.Result.{Result}
 use Rattle.std.specs.declared.result.Result.the-variants.{Ok, Err}
 use Rattle.register.specs.declared.entry.Entry.{Entry}
@@ -153,3 +154,7 @@ module _ {t : Terms} {h : History} {v : View} {es : List Entry} where
         records = k .records;
         marked = k .marked;
       }
+
+-- the register has as many entries as records were brought
+pub entries-are : {t : Terms} {h : History} {v : View} {es : List Entry} → Tied t h v es → length es ≡ v .records
+entries-are {t} k = let e = held-of k in ap length (e .entries) ∙ length-map (e .progress .front) (entry-of t) ∙ e .progress .count ∙ sym (e .records)
