@@ -5,3 +5,4 @@ pub mod Turns
 pub mod Views
 pub mod Parts
 pub mod Carrying
+pub mod Audits

@@ -4,3 +4,4 @@ pub mod intake;
 pub mod calls;
 pub mod takes;
 pub mod runs;
+pub mod audit;

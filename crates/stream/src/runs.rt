@@ -7,7 +7,6 @@ ghost use denote.Ref.{name};
 ghost use Rattle.common.specs.Lists.{items, room};
 ghost use Rattle.stream.specs.View.{view, terms};
 ghost use Rattle.stream.specs.Requests.{Carries, Ran};
-ghost use Rattle.stream.specs.Theorems.{Complete, Cuts-do-not-matter, One-answer};
 use crate::intake::Intake;
 use common::list::List;
 use format::format::Format;
