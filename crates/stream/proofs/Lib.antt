@@ -6,3 +6,4 @@ pub mod Views
 pub mod Parts
 pub mod Carrying
 pub mod Audits
+pub mod Feedings

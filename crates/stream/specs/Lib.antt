@@ -4,3 +4,4 @@ pub mod History
 pub mod Law
 pub mod Requests
 pub mod Theorems
+pub mod Feeding

@@ -38,7 +38,7 @@ impl Intake {
     }
 
     // How many bytes wait.
-    fn waiting(&self) -> usize
+    pub(crate) fn waiting(&self) -> usize
         ensures value { λ r. ⌜ r ≡ length (view (now (self .entry)) .waiting) ⌝ }
         ensures bound { λ r. ⌜ (r ≡ now (self .entry) .end - now (self .entry) .start) × (r ≤ 8192) ⌝ }
     {

@@ -5,3 +5,4 @@ pub mod calls;
 pub mod takes;
 pub mod runs;
 pub mod audit;
+pub mod feeding;

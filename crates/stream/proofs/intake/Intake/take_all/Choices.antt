@@ -1,0 +1,17 @@
+use mathlib.Core.Path.{_≡_}
+use denote.Ref.{name}
+use lib.ListN.{length}
+use Rattle.common.specs.Lists.{items, room}
+use Rattle.stream.specs.View.{view, terms}
+use Rattle.stream.proofs.Feedings.{So-far}
+use Rattle.stream.proofs.intake.Intake.take_all.Given as given
+
+abbrev pub Inv-loop-answer : given.InvT-loop-answer
+Inv-loop-answer g l =
+    let t = terms (g .F·Framing .verdict (l .framing)) (g .F·Framing .reach (l .framing)) (g .G·Format .meaning (l .formats)) (room (l .entry .register)) in
+    So-far t (view (l .entry .self)) (view (l .self)) (items (l .entry .register)) (items (l .register))
+    × (room (l .register) ≡ room (l .entry .register))
+    × (name (l .register .table) ≡ name (l .entry .register .table))
+
+abbrev pub μ-loop-answer : given.MeasureT-loop-answer
+μ-loop-answer g l = length (view (l .self) .waiting)
