@@ -76,6 +76,16 @@ def series(r, kind):
     return r[2] if kind == 1 and len(r) >= 3 else 0
 
 
+def verdict(r, kind):
+    """The verdict on a record and the place of its fault."""
+    if kind == 1 and len(r) >= 10 and r[2] == 0xA0:
+        return (0, 0) if len(r) > 10 else (18, 4)
+    if kind == 2 and r[:1] == b'$' and b'*' in r:
+        commas = [i for i in range(r.index(b'*')) if r[i] == ord(',')]
+        return (0, 0) if len(commas) < 64 else (19, commas[63])
+    return (10, 0)
+
+
 def frame(series_number, data):
     h = bytes([0xA5, 10, series_number, 0x10]) + struct.pack('<HH', len(data), checksum(data))
     return h + struct.pack('<H', checksum(h)) + data
@@ -97,7 +107,7 @@ def random_stream(r):
     """A stream of frames, damaged frames, sentences and noise."""
     b = b''
     for _ in range(r.randrange(1, 12)):
-        c = r.randrange(6)
+        c = r.randrange(8)
         if c == 0:
             b += frame(r.randrange(256), r.randbytes(r.choice([0, 1, 2, 7, 50, 300, 8181, 8182])))
         elif c == 1:
@@ -110,6 +120,10 @@ def random_stream(r):
             m = bytearray(frame(0x15, r.randbytes(40)))
             m[r.randrange(len(m))] ^= 1 << r.randrange(8)
             b += bytes(m)
-        else:
+        elif c == 5:
             b += frame(0xA0, r.randbytes(60))[:r.randrange(70)]
+        elif c == 6:
+            b += frame(0xA0, r.randbytes(r.randrange(3)))
+        else:
+            b += line(b'A' + b','.join(bytes(r.choice(b'0123456789.-') for _ in range(r.randrange(4))) for _ in range(r.choice([1, 14, 63, 64, 65, 66]))))
     return b

@@ -23,6 +23,19 @@ def frames_of(b):
     return ('\n'.join(out) + '\n').encode()
 
 
+def register_of(b, most=3968):
+    """What `intake` prints of a stream, and whether the register was too small for it."""
+    out, inside, end = [], 0, len(b)
+    for p, r, kind in d.records(b):
+        if len(out) == most:
+            return None
+        number, place = d.verdict(r, kind)
+        out.append(f'{p} {len(r)} {kind} {d.series(r, kind)} {number} {place}')
+        inside += len(r)
+    out.append(f'accepted {len(b)} records {len(out)} passed {len(b) - inside} waiting 0')
+    return ('\n'.join(out) + '\n').encode()
+
+
 def streams(count):
     yield b''
     yield b'\0' + d.TAG
@@ -38,8 +51,42 @@ def test_frames_lists_what_the_decoder_finds():
         assert (r.returncode, r.stdout) == (0, frames_of(b)), b.hex()
 
 
+def test_intake_registers_what_the_decoder_finds():
+    for b in streams(200):
+        r = run('intake', b)
+        assert (r.returncode, r.stdout) == (0, register_of(b)), b.hex()
+
+
+def test_intake_does_not_depend_on_how_a_pipe_was_cut():
+    rng = random.Random(7)
+    for b in streams(12):
+        p = subprocess.Popen([ROOT / 'target' / 'bin' / 'intake'], stdin=subprocess.PIPE, stdout=subprocess.PIPE)
+        i = 0
+        while i < len(b):
+            n = rng.choice([1, 2, 3, 10, 57, 500, 5000])
+            p.stdin.write(b[i:i + n])
+            p.stdin.flush()
+            i += n
+        out, _ = p.communicate()
+        assert (p.returncode, out) == (0, register_of(b)), b.hex()
+
+
+def test_intake_refuses_a_stream_that_its_register_cannot_hold():
+    some = d.line(b'A') * 3967
+    r = run('intake', some)
+    assert (r.returncode, r.stdout) == (0, register_of(some))
+    for more in [1, 2, 500]:
+        b = d.line(b'A') * (3967 + more)
+        r = run('intake', b)
+        lines = r.stdout.splitlines()
+        assert r.returncode == 1 and b'refused, 5: the register has no free place' in r.stderr
+        assert lines[:-1] == register_of(b, 10000).splitlines()[:3968]
+        accepted, waiting = (int(lines[-1].split()[k]) for k in (1, 7))
+        assert lines[-1].split()[3] == b'3968' and accepted == 3968 * 7 + waiting
+
+
 def test_programs_tell_their_usage():
-    for program in ['frames']:
+    for program in ['frames', 'intake']:
         assert run(program, b'', '--help').stdout.startswith(b'usage: ' + program.encode())
         r = run(program, b'', '--no-such-option')
         assert r.returncode == 1 and r.stderr and not r.stdout

@@ -7,3 +7,22 @@ pub struct Refusal {
     pub layer: u8,
     pub place: usize,
 }
+
+impl Refusal {
+    // What the refusal's number says, in words.
+    pub fn meaning(self) -> &'static str {
+        match self.number {
+            1 => "the stream is closed",
+            2 => "more than 2^40 bytes would have been accepted",
+            3 => "more than 8,192 bytes would wait",
+            4 => "the space is shorter than the framing's reach",
+            5 => "the register has no free place",
+            10 => "no format claims the record",
+            18 => "the string record has no data",
+            19 => "the sentence has more than 64 fields",
+            20 => "the table is too short for the parts",
+            26 => "the line does not fit its space",
+            _ => "unknown",
+        }
+    }
+}

@@ -100,10 +100,13 @@ pub complete : Complete
 complete t h v es k d =
     let o = over (k .lawful) h (k .place) (k .law .answered) (k .law .reached) d in
     let x = exists (k .lawful .framing) (closed h) (accepted h) 0 in
-    let all : take (brought h) (x .0) ≡ x .0 = take-all (brought h) (x .0) (omega (arith, o .all (x .0) (x .1) (x .2))) in
-    (x .0, x .1, subst (λ c. Reading (t .verdict) c (accepted h) 0 (x .0) (x .1)) (o .shut) (x .2),
-     k .law .lists (x .0) (x .1) (x .2) .1 ∙ ap (map (entry-of t)) all,
-     k .waiting ∙ drop-all (k .place) (accepted h) (omega (arith, o .at-end)))
+    let all : take (brought h) (x .0) ≡ x .0 = take-all (brought h) (x .0) (omega (arith, o .all (x .0) (x .1) (x .2))) in (
+      x .0,
+      x .1,
+      subst (λ c. Reading (t .verdict) c (accepted h) 0 (x .0) (x .1)) (o .shut) (x .2),
+      k .law .lists (x .0) (x .1) (x .2) .1 ∙ ap (map (entry-of t)) all,
+      k .waiting ∙ drop-all (k .place) (accepted h) (omega (arith, o .at-end)),
+    )
 
 pub cuts-do-not-matter : Cuts-do-not-matter
 cuts-do-not-matter t h h′ v v′ es es′ k k′ d d′ same =
@@ -160,10 +163,11 @@ same-view pw pa pb pc po = cc
 one-tie : (t : Terms) (h : History) (v v′ : View) (es es′ : List Entry) → Tied t h v es → Tied t h v′ es′ → (es ≡ es′) × (v ≡ v′)
 one-tie t h v v′ es es′ k k′ =
     let x = exists (k .lawful .framing) (closed h) (accepted h) 0 in
-    let p = one-place (k .lawful) h (k .place) (k′ .place) (k .law .reached) (k′ .law .reached) in
-    (k .law .lists (x .0) (x .1) (x .2) .1 ∙ sym (k′ .law .lists (x .0) (x .1) (x .2) .1),
-     same-view (k .waiting ∙ ap (λ i. drop i (accepted h)) p ∙ sym (k′ .waiting)) (k .counted ∙ sym (k′ .counted))
-       (k .registered (x .0) (x .1) (x .2) ∙ sym (k′ .registered (x .0) (x .1) (x .2))) (k .records ∙ sym (k′ .records)) (k .marked ∙ sym (k′ .marked)))
+    let p = one-place (k .lawful) h (k .place) (k′ .place) (k .law .reached) (k′ .law .reached) in (
+      k .law .lists (x .0) (x .1) (x .2) .1 ∙ sym (k′ .law .lists (x .0) (x .1) (x .2) .1),
+      same-view (k .waiting ∙ ap (λ i. drop i (accepted h)) p ∙ sym (k′ .waiting)) (k .counted ∙ sym (k′ .counted))
+          (k .registered (x .0) (x .1) (x .2) ∙ sym (k′ .registered (x .0) (x .1) (x .2))) (k .records ∙ sym (k′ .records)) (k .marked ∙ sym (k′ .marked)),
+    )
 
 pub one-answer : One-answer
 one-answer t h a a′ v v′ es es′ q k k′ =

@@ -36,6 +36,6 @@ pub carry-more : {bytes : List ℕ} {f : List ℕ → Verdict} {reach : ℕ} {me
     → Carries (terms f reach meaning m′) bytes n′ (q ∷ []) v′ v″ es′ es″ → Carries (terms f reach meaning m) bytes n (take (i + 1) qs) v v″ es es″
 carry-more {bytes} {f} {reach} {meaning} {m} {m′} {n} {n′} {v} {v′} {v″} {es} {es′} {es″} qs i q before same long less is this =
     let this₁ : Carries (terms f reach meaning m) bytes n (q ∷ []) v′ v″ es′ es″ =
-        subst (λ m. Carries (terms f reach meaning m) bytes n (q ∷ []) v′ v″ es′ es″) same (subst (λ n. Carries (terms f reach meaning m′) bytes n (q ∷ []) v′ v″ es′ es″) long this) in
+    subst (λ m. Carries (terms f reach meaning m) bytes n (q ∷ []) v′ v″ es′ es″) same (subst (λ n. Carries (terms f reach meaning m′) bytes n (q ∷ []) v′ v″ es′ es″) long this) in
     let one-more : take i qs ++ (q ∷ []) ≡ take (i + 1) qs = ap (λ x. take i qs ++ (x ∷ [])) is ∙ sym (take-more qs i q less) in
     subst (λ l. Carries (terms f reach meaning m) bytes n l v v″ es es″) one-more (carry-on before this₁)

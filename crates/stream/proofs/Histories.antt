@@ -117,14 +117,15 @@ module _ {t : Terms} {h : History} {v : View} {es : List Entry} where
         law = record {
           answered = k .answered;
           reached = k .reached;
-          lists = λ rs e r.
-            (let x = split laws q rs e r in omega (arith, ap length (x .2), length-append (q .front) (x .0), q .count),
-             k .entries ∙ ap (map (entry-of t)) (sym (front-is laws q rs e r)));
+          lists = λ rs e r. (
+            let x = split laws q rs e r in omega (arith, ap length (x .2), length-append (q .front) (x .0), q .count),
+            k .entries ∙ ap (map (entry-of t)) (sym (front-is laws q rs e r)),
+          );
           adds = λ rs e r. omega (arith, ap framed (front-is laws q rs e r), q .inside, q .within);
           passed = λ rs e r i l o.
-            let x = split laws q rs e r in
-            subst (Outside i) (sym (x .2))
-            (all-append (λ f. f .place ≤ i → i < f .place + length (f .bytes) → ⊥) (q .front) (x .0)
+              let x = split laws q rs e r in
+              subst (Outside i) (sym (x .2))
+              (all-append (λ f. f .place ≤ i → i < f .place + length (f .bytes) → ⊥) (q .front) (x .0)
               (subst (Outside i) (front-is laws q rs e r) o)
               (all-weaker (λ f. p ≤ f .place) (λ f. f .place ≤ i → i < f .place + length (f .bytes) → ⊥) (λ f a b c. omega arith) (x .0) (places laws (x .1))));
         };

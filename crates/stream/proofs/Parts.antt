@@ -11,7 +11,7 @@ use Rattle.std.proofs.shelf.Tests.{cases-lt}
 take-min : (ys : List ℕ) (n m : ℕ) → m ≡ min n (length ys) → take m ys ≡ take n ys
 take-min ys n m e =
     elim (cases-lt n (length ys)) [
-      inl l ↦ ap (λ i. take i ys) (omega arith)
+      | inl l ↦ ap (λ i. take i ys) (omega arith)
       | inr g ↦ take-all m ys (omega arith) ∙ sym (take-all n ys g)
     ]
 
@@ -23,6 +23,6 @@ clip xs start len from m a b =
     same : take len (drop from xs) ≡ take len (drop start xs)
     same =
         elim (cases-lt start (length xs)) [
-          inl l ↦ ap (λ i. take len (drop i xs)) (omega arith)
+          | inl l ↦ ap (λ i. take len (drop i xs)) (omega arith)
           | inr g ↦ ap (take len) (drop-all from xs (omega arith) ∙ sym (drop-all start xs g))
         ]

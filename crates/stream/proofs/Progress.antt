@@ -51,8 +51,8 @@ module _ {v : List ℕ → Verdict} {s : List ℕ} {n p : ℕ} where
     inside = q .inside;
     before = q .before;
     joins = λ t d g rs e r.
-      let same : s ++ b ++ t ≡ s ++ (b ++ t) = append-assoc s b t in
-      subst (λ u. Reading v d u 0 (q .front ++ rs) e) (sym same) (q .joins (b ++ t) d (grows c (b ++ t) d o) rs e (subst (λ u. Reading v d u p rs e) same r));
+        let same : s ++ b ++ t ≡ s ++ (b ++ t) = append-assoc s b t in
+        subst (λ u. Reading v d u 0 (q .front ++ rs) e) (sym same) (q .joins (b ++ t) d (grows c (b ++ t) d o) rs e (subst (λ u. Reading v d u p rs e) same r));
   }
 
   -- the stream is closed
@@ -84,8 +84,8 @@ module _ {v : List ℕ → Verdict} {s : List ℕ} {n p : ℕ} where
         before = all-append (λ f. f .place + length (f .bytes) ≤ behind rs e) (q .front) (first rs)
             (all-weaker (λ f. f .place + length (f .bytes) ≤ p) (λ f. f .place + length (f .bytes) ≤ behind rs e) (λ f h. omega (arith, b .0)) (q .front) (q .before)) (m .1);
         joins = λ t d g rs′ e′ x.
-          subst (λ l. Reading v d (s ++ t) 0 l e′) (sym (append-assoc (q .front) (first rs) rs′))
-          (q .joins t d g (first rs ++ rs′) e′ (works-on laws c s t d g r x));
+            subst (λ l. Reading v d (s ++ t) 0 l e′) (sym (append-assoc (q .front) (first rs) rs′))
+            (q .joins t d g (first rs ++ rs′) e′ (works-on laws c s t d g r x));
       }
 
 -- the reading of all bytes, from what was brought

@@ -49,7 +49,7 @@ new-held lawful = record {
 
 same-totals : {a b c d e a′ b′ c′ d′ e′ : ℕ} {o o′ : Bool} → a ≡ a′ → b ≡ b′ → c ≡ c′ → d ≡ d′ → e ≡ e′ → o ≡ o′
     → _≡_ {A = Totals} (record { accepted = a; registered = b; passed = c; waiting = d; records = e; «open» = o })
-      (record { accepted = a′; registered = b′; passed = c′; waiting = d′; records = e′; «open» = o′ })
+    (record { accepted = a′; registered = b′; passed = c′; waiting = d′; records = e′; «open» = o′ })
 same-totals pa pb pc pd pe po = cc
 
 same-found : {a a′ k : ℕ} {b b′ : List ℕ} → a ≡ a′ → b ≡ b′ → _≡_ {A = Found} (record { place = a; bytes = b; kind = k }) (record { place = a′; bytes = b′; kind = k })
@@ -69,6 +69,7 @@ carry {t} {h} {v} {v′} {es} {es′} {x} {y} {y′} {r} {r′} a b c d k =
 module _ {t : Terms} {h : History} {v : View} {es : List Entry} (k : Held t h v es) where
   abbrev s : List ℕ
   s = accepted h
+
   abbrev p : ℕ
   p = k .place
 
@@ -162,7 +163,7 @@ module _ {t : Terms} {h : History} {v : View} {es : List Entry} (k : Held t h v 
       let same = front-is (k .lawful .framing) q (x .0) (x .1) (x .2) in
       let registered : v .registered ≡ framed (take (brought h) (x .0)) = k .registered ∙ ap framed (sym same) in
       let passed : v .accepted - v .registered - length (v .waiting) ≡ p - framed (take (brought h) (x .0)) =
-          omega (arith, k .counted, waits, registered, ap framed same, q .inside, q .within) in
+      omega (arith, k .counted, waits, registered, ap framed same, q .inside, q .within) in
       let told : totals v ≡ totals-of h p (x .0) = same-totals (k .counted) registered passed waits (k .records) (ap not (k .marked)) in
       record {
         lawful = k .lawful;
@@ -202,12 +203,12 @@ module _ {t : Terms} {h : History} {v : View} {es : List Entry} (k : Held t h v 
       let laws = k .lawful .framing in
       let q = k .progress in
       let r1 : Reading (t .verdict) (closed h) (drop p s) 0 [] e =
-          subst (λ w. Reading (t .verdict) (closed h) w 0 [] e) (k .waiting) (subst (λ c. Reading (t .verdict) c (v .waiting) 0 [] e) (k .marked) r) in
+      subst (λ w. Reading (t .verdict) (closed h) w 0 [] e) (k .waiting) (subst (λ c. Reading (t .verdict) c (v .waiting) 0 [] e) (k .marked) r) in
       let r2 : Reads t h p [] (p + e) = subst (λ i. Reads t h i [] (p + e)) (add-zero p) (in-whole (t .verdict) (closed h) s p (q .within) r1) in
       let r3 : Reads t h 0 (q .front ++ []) (p + e) = whole laws q [] (p + e) r2 in
       let none : Take-said t h x x (Ok (nothing (closed h))) =
-          law.none a (subst (λ n. n < t .room) many b) (q .front ++ []) (p + e) r3 (length-append (q .front) [] ∙ omega (arith, q .count))
-          (λ o. few-left laws (subst (λ c. Reading (t .verdict) c s p [] (p + e)) o r2) (q .within)) refl refl in
+      law.none a (subst (λ n. n < t .room) many b) (q .front ++ []) (p + e) r3 (length-append (q .front) [] ∙ omega (arith, q .count))
+      (λ o. few-left laws (subst (λ c. Reading (t .verdict) c s p [] (p + e)) o r2) (q .within)) refl refl in
       let told = brought-none (closed h) x x h in
       record {
         lawful = k .lawful;
@@ -226,14 +227,14 @@ module _ {t : Terms} {h : History} {v : View} {es : List Entry} (k : Held t h v 
   -- a take that brings a record
   brings-held : (x : List ℕ) (place len kind : ℕ) → t .reach ≤ length x → length es < t .room → Comes (t .verdict) (v .closed) (v .waiting) 0 place len kind
       → Held t (took x (take len (drop place (v .waiting)) ++ drop len x) (Ok (Record (entry-of t (found-at v place len kind)))) ∷ h) (advanced v place len)
-        (es ++ (entry-of t (found-at v place len kind) ∷ []))
+      (es ++ (entry-of t (found-at v place len kind) ∷ []))
   unfolding with-take
   brings-held x place len kind a b c =
       let laws = k .lawful .framing in
       let q = k .progress in
       let w : List ℕ = drop p s in
       let c1 : Comes (t .verdict) (closed h) w 0 place len kind =
-          subst (λ u. Comes (t .verdict) (closed h) u 0 place len kind) (k .waiting) (subst (λ d. Comes (t .verdict) d (v .waiting) 0 place len kind) (k .marked) c) in
+      subst (λ u. Comes (t .verdict) (closed h) u 0 place len kind) (k .waiting) (subst (λ d. Comes (t .verdict) d (v .waiting) 0 place len kind) (k .marked) c) in
       let rest = exists laws (closed h) w (place + len) in
       let more : List Found = map (moved p) (rest .0) in
       let f : Found = moved p (found w place len kind) in
@@ -243,7 +244,7 @@ module _ {t : Terms} {h : History} {v : View} {es : List Entry} (k : Held t h v 
       let long : length (f .bytes) ≡ len = simp (length-take, length-drop) (omega (arith, c1 .within, length-drop p s)) in
       let same : found-at v place len kind ≡ f = same-found (ap (λ i. i + place) begins) (ap (λ u. take len (drop place u)) (k .waiting)) in
       let y : take len (drop place (v .waiting)) ++ drop len x ≡ f .bytes ++ drop (length (f .bytes)) x =
-          ap (λ g. g .bytes ++ drop len x) same ∙ ap (λ n. f .bytes ++ drop n x) (sym long) in
+      ap (λ g. g .bytes ++ drop len x) same ∙ ap (λ n. f .bytes ++ drop n x) (sym long) in
       let told : Ok (Record (entry-of t (found-at v place len kind))) ≡ Ok (Record (entry-of t f)) = ap (λ g. Ok (Record (entry-of t g))) same in
       record {
         lawful = k .lawful;

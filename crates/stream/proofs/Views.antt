@@ -32,7 +32,7 @@ pub behind-them : (bs ys : List ℕ) (a b n : ℕ) → a ≤ b → b + n ≤ len
     → take (b + n - a) (drop a (putMid b (b + n - b) bs ys)) ≡ take (b - a) (drop a bs) ++ ys
 behind-them bs ys a b n l h e =
     let front : drop a (putMid b (b + n - b) bs ys) ≡ drop a (take b bs) ++ (ys ++ postOf b (b + n - b) bs) =
-        drop-append-le a (take b bs) (ys ++ postOf b (b + n - b) bs) (simp length-take (omega arith)) in
+    drop-append-le a (take b bs) (ys ++ postOf b (b + n - b) bs) (simp length-take (omega arith)) in
     let between : drop a (take b bs) ≡ take (b - a) (drop a bs) = sym (between-is bs a b) in
     let x : List ℕ = take (b - a) (drop a bs) in
     let long : length (x ++ ys) ≡ b + n - a = length-append x ys ∙ omega (arith, waiting-length bs a b l (omega arith)) in
@@ -53,7 +53,7 @@ fault-fits {m} laws k s h = at (m k s .claims) refl
     at false e = omega (arith, ap (λ x. x .judgement .place) (laws .other k s e))
     at true e =
         elim (cases-eq (m k s .judgement .number) 0) [
-          inl z ↦ omega (arith, laws .nowhere k s z)
+          | inl z ↦ omega (arith, laws .nowhere k s z)
           | inr z ↦ omega (arith, laws .inside k s e z)
         ]
 

@@ -28,17 +28,17 @@ in-whole v c s b h {p} (ends l) = ends (omega (arith, length-drop b s))
 in-whole v c s b h {p} (stops l q o) = stops (omega (arith, length-drop b s)) (ap v (sym (drop-drop p b s)) ∙ q) o
 in-whole v c s b h {p} {e} (cuts {rs = rs} l q o r) =
     let on : Reading v c s (b + p + 1) (map (moved b) rs) (b + e) =
-        subst (λ i. Reading v c s i (map (moved b) rs) (b + e)) (omega arith) (in-whole v c s b h r) in
+    subst (λ i. Reading v c s i (map (moved b) rs) (b + e)) (omega arith) (in-whole v c s b h r) in
     cuts (omega (arith, length-drop b s)) (ap v (sym (drop-drop p b s)) ∙ q) o on
 in-whole v c s b h {p} {e} (skips {rs = rs} l q r) =
     let on : Reading v c s (b + p + 1) (map (moved b) rs) (b + e) =
-        subst (λ i. Reading v c s i (map (moved b) rs) (b + e)) (omega arith) (in-whole v c s b h r) in
+    subst (λ i. Reading v c s i (map (moved b) rs) (b + e)) (omega arith) (in-whole v c s b h r) in
     skips (omega (arith, length-drop b s)) (ap v (sym (drop-drop p b s)) ∙ q) on
 in-whole v c s b h {p} {e} (takes {n = n} {k = k} {rs = rs} l q r) =
     let on : Reading v c s (b + p + n) (map (moved b) rs) (b + e) =
-        subst (λ i. Reading v c s i (map (moved b) rs) (b + e)) (omega arith) (in-whole v c s b h r) in
+    subst (λ i. Reading v c s i (map (moved b) rs) (b + e)) (omega arith) (in-whole v c s b h r) in
     let same : found s (b + p) n k ≡ moved b (found (drop b s) p n k) =
-        ap (λ t. record { place = b + p; bytes = take n t; kind = k }) (sym (drop-drop p b s)) in
+    ap (λ t. record { place = b + p; bytes = take n t; kind = k }) (sym (drop-drop p b s)) in
     subst (λ f. Reading v c s (b + p) (f ∷ map (moved b) rs) (b + e)) same
     (takes (omega (arith, length-drop b s)) (ap v (sym (drop-drop p b s)) ∙ q) on)
 
@@ -113,7 +113,7 @@ module _ {v : List ℕ → Verdict} {reach : ℕ} (laws : Laws v reach) where
   few-left (ends l) h = omega arith
   few-left {s} {p} (stops l q o) h =
       elim (cases-lt (length (drop p s)) reach) [
-        inl less ↦ omega (arith, length-drop p s, laws .reach-high)
+        | inl less ↦ omega (arith, length-drop p s, laws .reach-high)
         | inr enough ↦ absurd (laws .decided (drop p s) enough q)
       ]
   few-left (cuts l q o r) h = few-left r (omega arith)

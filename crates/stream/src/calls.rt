@@ -17,7 +17,9 @@ use register::entry::Totals;
 
 // How many bytes may be accepted in all, may wait, and fit the buffer.
 const MOST_ACCEPTED: u64 = 1 << 40;
+
 const MOST_WAITING: usize = 8192;
+
 const BUFFER: usize = 16384;
 
 impl Intake {

@@ -34,7 +34,7 @@ impl Intake {
         register: &mut List<'_, Entry>,
         space: &mut [u8],
     ) -> Result<Taken, Fault>
-        ensures law { λ r. ⌜ Feeds (terms (F·Framing .verdict (now (framing .entry))) (F·Framing .reach (now (framing .entry))) (G·Format .meaning (now (formats .entry))) (room (now (register .entry)))) [] (view (now (self .entry))) (view (now (self .exit))) (items (now (register .entry))) (items (now (register .exit))) r ⌝ }
+        ensures law { λ r. ⌜ Feeds (terms (F·Framing .verdict (now (framing .entry))) (F·Framing .reach (now (framing .entry))) (G·Format .meaning (now (formats .entry))) (room (now (register .entry)))) [] (λ c. c) (view (now (self .entry))) (view (now (self .exit))) (items (now (register .entry))) (items (now (register .exit))) r ⌝ }
         ensures room { λ _. ⌜ room (now (register .exit)) ≡ room (now (register .entry)) ⌝ }
         ensures lends { λ _. ⌜ name (now (register .exit) .table) ≡ name (now (register .entry) .table) ⌝ }
     {
@@ -56,7 +56,7 @@ impl Intake {
         bytes: &[u8],
         last: bool,
     ) -> Result<Taken, Fault>
-        ensures law { λ r. ⌜ Feeds (terms (F·Framing .verdict (now (framing .entry))) (F·Framing .reach (now (framing .entry))) (G·Format .meaning (now (formats .entry))) (room (now (register .entry)))) (now (bytes .entry)) (view (now (self .entry))) (view (now (self .exit))) (items (now (register .entry))) (items (now (register .exit))) r ⌝ }
+        ensures law { λ r. ⌜ Feeds (terms (F·Framing .verdict (now (framing .entry))) (F·Framing .reach (now (framing .entry))) (G·Format .meaning (now (formats .entry))) (room (now (register .entry)))) (now (bytes .entry)) (λ _. last) (view (now (self .entry))) (view (now (self .exit))) (items (now (register .entry))) (items (now (register .exit))) r ⌝ }
         ensures room { λ _. ⌜ room (now (register .exit)) ≡ room (now (register .entry)) ⌝ }
         ensures lends { λ _. ⌜ name (now (register .exit) .table) ≡ name (now (register .entry) .table) ⌝ }
     {
@@ -68,7 +68,7 @@ impl Intake {
 
     // Delivers a piece of the stream, and closes the stream where it is the last.
     fn accept(&mut self, bytes: &[u8], last: bool) -> Result<(), Fault>
-        ensures { λ r. ⌜ Begins (now (bytes .entry)) (view (now (self .entry))) (view (now (self .exit))) r ⌝ }
+        ensures { λ r. ⌜ Begins (now (bytes .entry)) last (view (now (self .entry))) (view (now (self .exit))) r ⌝ }
     {
         if let Err(fault) = self.deliver(bytes) {
             return Err(fault);

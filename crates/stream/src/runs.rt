@@ -1,7 +1,7 @@
 // Lists of requests, run one after the other.
 ghost use mathlib.Core.Path.{_≡_};
 ghost use mathlib.Core.List.{[], _∷_};
-ghost use Prim.Native.Nat.{ℕ};
+ghost use Prim.Native.Nat.{ℕ, min};
 ghost use lib.ListN.{length, take, drop};
 ghost use denote.Ref.{name};
 ghost use Rattle.common.specs.Lists.{items, room};
@@ -34,6 +34,13 @@ fn part(bytes: &[u8], start: usize, len: usize) -> &[u8]
     &bytes[from..to]
 }
 
+// How much of a space is lent.
+fn lent(asked: usize, all: usize) -> usize
+    ensures { λ r. ⌜ r ≡ min asked all ⌝ }
+{
+    asked.min(all)
+}
+
 // Runs one request.
 fn turn<F: Framing, G: Format>(
     framing: &F,
@@ -53,8 +60,8 @@ fn turn<F: Framing, G: Format>(
             let _ = intake.deliver(part(bytes, start, len));
         }
         Request::Take { room } => {
-            let lent = room.min(space.len());
-            let _ = intake.take(framing, formats, register, &mut space[0..lent]);
+            let n = lent(room, space.len());
+            let _ = intake.take(framing, formats, register, &mut space[0..n]);
         }
         Request::Close => {
             let _ = intake.close();
@@ -97,6 +104,14 @@ pub fn run_new<F: Framing, G: Format>(
 {
     let mut intake = Intake::new();
     let mut register = List::new(table);
-    run(framing, formats, &mut intake, &mut register, space, bytes, requests);
+    run(
+        framing,
+        formats,
+        &mut intake,
+        &mut register,
+        space,
+        bytes,
+        requests,
+    );
     intake.tell()
 }

@@ -45,7 +45,11 @@ fn entry_of<G: Format>(formats: &G, place: u64, kind: u8, bytes: &[u8]) -> Entry
 fn without_record(closed: bool) -> Taken
     ensures { λ r. ⌜ r ≡ nothing closed ⌝ }
 {
-    if closed { Taken::Drained } else { Taken::NotYet }
+    if closed {
+        Taken::Drained
+    } else {
+        Taken::NotYet
+    }
 }
 
 impl Intake {
@@ -99,7 +103,12 @@ impl Intake {
     {
         let waiting = &self.bytes[self.start..self.end];
         let base = self.accepted - waiting.len() as u64;
-        entry_of(formats, base + place as u64, kind, &waiting[place..place + len])
+        entry_of(
+            formats,
+            base + place as u64,
+            kind,
+            &waiting[place..place + len],
+        )
     }
 
     // Works the reading on to the next record, and brings it.

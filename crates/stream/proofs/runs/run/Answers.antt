@@ -17,10 +17,12 @@ pub loop-request-again : need.loop-request-again
 loop-request-again g c =
     let qs = c .args .requests .now in
     let i = c .loop-request .request-index in
-    let q = getD qs i (Deliver 0 0) in
-    (carry-more qs i q (c .loop-request .inv .0) (c .loop-request .inv .1) (omega arith) (c .loop-request-test .taken)
-       (getD-default qs i (Deliver 0 0) q (c .loop-request-test .taken)) (c .turn .ensures .law),
-     c .turn .ensures .room ∙ c .loop-request .inv .1, c .turn .ensures .lends ∙ c .loop-request .inv .2)
+    let q = getD qs i (Deliver 0 0) in (
+      carry-more qs i q (c .loop-request .inv .0) (c .loop-request .inv .1) (omega arith) (c .loop-request-test .taken)
+          (getD-default qs i (Deliver 0 0) q (c .loop-request-test .taken)) (c .turn .ensures .law),
+      c .turn .ensures .room ∙ c .loop-request .inv .1,
+      c .turn .ensures .lends ∙ c .loop-request .inv .2,
+    )
 
 pub returns : need.returns
 returns g c =

@@ -20,15 +20,15 @@ returns g c =
     let lawful : Lawful t = record { framing = g .F·Framing·met .lawful (c .args .framing .now); formats = g .G·Format·met .lawful (c .args .formats .now) } in
     let wide : room (c .new-register .result) ≡ length (c .args .table .now) = ap length (c .new-register .ensures .table) in
     let start : Tied t [] (view (c .new-intake .result)) (items (c .new-register .result)) =
-        subst (λ es. Tied t [] (view (c .new-intake .result)) es) (sym (c .new-register .ensures .items)) (c .new-intake .ensures .law t lawful) in
+    subst (λ es. Tied t [] (view (c .new-intake .result)) es) (sym (c .new-register .ensures .items)) (c .new-intake .ensures .law t lawful) in
     let last = c .run .last .register in
     let held = view (c .run .last .intake) in
     let law = subst (λ m. Carries (terms (g .F·Framing .verdict (c .args .framing .now)) (g .F·Framing .reach (c .args .framing .now)) (g .G·Format .meaning (c .args .formats .now)) m)
-        (c .args .bytes .now) (length (c .args .space .now)) (c .args .requests .now) (view (c .new-intake .result)) held (items (c .new-register .result)) (items last)) wide (c .run .ensures .law) in
+    (c .args .bytes .now) (length (c .args .space .now)) (c .args .requests .now) (view (c .new-intake .result)) held (items (c .new-register .result)) (items last)) wide (c .run .ensures .law) in
     let ran = law [] start in
     let looked-at = c .tell .ensures .law t (ran .0) (items last) (ran .2) in
     let count : c .tell .result .records ≡ last .len =
-        ap (λ (s : Totals). s .records) (c .tell .ensures .does) ∙ sym (entries-are (ran .2)) ∙ length-take-le (last .len) (last .table .now) (last .within) in
+    ap (λ (s : Totals). s .records) (c .tell .ensures .does) ∙ sym (entries-are (ran .2)) ∙ length-take-le (last .len) (last .table .now) (last .within) in
     let all : (es : List Entry) → es ≡ items last → Ran t (c .args .bytes .now) (length (c .args .space .now)) (c .args .requests .now) (c .tell .result) es =
-        λ es e. record { history = ran .0; follows = ran .1; view = held; stands = subst (λ l. Tied t (looked (c .tell .result) ∷ ran .0) held l) (sym e) looked-at } in
+    λ es e. record { history = ran .0; follows = ran .1; view = held; stands = subst (λ l. Tied t (looked (c .tell .result) ∷ ran .0) held l) (sym e) looked-at } in
     all _ (rw count (search needs))

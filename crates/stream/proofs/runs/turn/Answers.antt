@@ -18,9 +18,9 @@ returns-in-Deliver g c = record {
 pub returns-in-Take : need.returns-in-Take
 returns-in-Take g c = record {
   law = λ h k.
-    let x = take (c .min-lent .result - 0) (c .args .space .now) in
-    let long : length x ≡ min (c .in-Take .room) (length (c .args .space .now)) = simp length-take (omega (arith, c .min-lent .ensures)) in
-    (took x (c .take .last .space) (c .take .result) ∷ h, one-turn (c .in-Take .is) (taking long), c .take .ensures .law h k);
+      let x = take (c .lent-n .result - 0) (c .args .space .now) in
+      let long : length x ≡ min (c .in-Take .room) (length (c .args .space .now)) = simp length-take (omega (arith, c .lent-n .ensures)) in
+      (took x (c .take .last .space) (c .take .result) ∷ h, one-turn (c .in-Take .is) (taking long), c .take .ensures .law h k);
   room = c .take .ensures .room;
   lends = c .take .ensures .lends;
 }
