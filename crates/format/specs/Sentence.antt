@@ -26,7 +26,7 @@ abbrev pub fields : ℕ → ℕ → ℕ → List ℕ → List Part
 fields code start count [] = plain code start count ∷ []
 fields code start count (x ∷ s) =
     cond (eqb x star) (plain code start count ∷ [])
-    (cond (eqb x comma) (plain code start count ∷ fields (code + 1) (start + count + 1) 0 s) (fields code start (count + 1) s))
+    (cond (eqb x comma) (let more : List Part = fields (code + 1) (start + count + 1) 0 s in plain code start count ∷ more) (fields code start (count + 1) s))
 
 -- how many commas stand before the first `*`
 abbrev pub commas : List ℕ → ℕ

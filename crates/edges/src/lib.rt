@@ -1,0 +1,3 @@
+// The edges of the calls, tried.
+#[cfg(test)]
+mod tests;
