@@ -42,7 +42,12 @@ fn a_space_of_the_reach_and_one_byte_under_it() -> Result<(), Fail> {
     let mut register = List::new(&mut table);
     let mut intake = Intake::new();
     check_eq(
-        intake.take(&Sentence, &SentenceFields, &mut register, &mut space[0..511]),
+        intake.take(
+            &Sentence,
+            &SentenceFields,
+            &mut register,
+            &mut space[0..511],
+        ),
         Err(Fault::SpaceShort),
     )?;
     check_eq(
