@@ -4,3 +4,4 @@ pub mod Texts
 pub mod Commas
 pub mod Fields
 pub mod Sentences
+pub mod Numbers
