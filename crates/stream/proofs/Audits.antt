@@ -16,7 +16,7 @@ use Rattle.stream.specs.declared.answers.Fault.{Fault}
 use Rattle.stream.specs.declared.answers.Taken.{Taken}
 use Rattle.stream.specs.declared.answers.Taken.the-variants.{Record, NotYet, Drained}
 use Rattle.stream.specs.Answers.{ask-deliver, ask-close, nothing}
-use Rattle.stream.specs.View.{View, Terms, Lawful, entry-of}
+use Rattle.stream.specs.View.{View, Terms, Lawful, entry-by, entry-of, totals}
 use Rattle.stream.specs.History.{Turn, delivered, took, closing, looked, History, accepted, closed, brought, behind, Reads, Reached}
 use Rattle.stream.specs.Law.{Take-said, short, full, next, none, Said, Answered, totals-of, Law, Tied}
 use Rattle.stream.specs.Theorems.{Has-drained, here, before, Complete, Cuts-do-not-matter, Same-request, delivery, taking, close, tell, One-answer}
@@ -108,12 +108,33 @@ complete t h v es k d =
       k .waiting ∙ drop-all (k .place) (accepted h) (omega (arith, o .at-end)),
     )
 
+same-view : {a a′ b b′ c c′ : ℕ} {w w′ : List ℕ} {o o′ : Bool} → w ≡ w′ → a ≡ a′ → b ≡ b′ → c ≡ c′ → o ≡ o′
+    → _≡_ {A = View} (record { waiting = w; accepted = a; registered = b; records = c; closed = o }) (record { waiting = w′; accepted = a′; registered = b′; records = c′; closed = o′ })
+same-view pw pa pb pc po = cc
+
+-- what a drained intake holds, by the records of the closed reading
+drained-view : (t : Terms) (h : History) (v : View) (es : List Entry) (k : Tied t h v es) → Has-drained h → (rs : List Found) (e : ℕ)
+    → Reading (t .verdict) true (accepted h) 0 rs e
+    → v ≡ record { waiting = []; accepted = length (accepted h); registered = framed rs; records = length rs; closed = true }
+drained-view t h v es k d rs e r =
+    let o = over (k .lawful) h (k .place) (k .law .answered) (k .law .reached) d in
+    let s : Reads t h 0 rs e = subst (λ c. Reading (t .verdict) c (accepted h) 0 rs e) (sym (o .shut)) r in
+    let all : take (brought h) rs ≡ rs = take-all (brought h) rs (omega (arith, o .all rs e s)) in
+    same-view (k .waiting ∙ drop-all (k .place) (accepted h) (omega (arith, o .at-end))) (k .counted) (k .registered rs e s ∙ ap framed all)
+    (k .records ∙ sym (o .all rs e s)) (k .marked ∙ o .shut)
+
 pub cuts-do-not-matter : Cuts-do-not-matter
-cuts-do-not-matter t h h′ v v′ es es′ k k′ d d′ same =
+cuts-do-not-matter t t′ h h′ v v′ es es′ verdicts meanings k k′ d d′ same =
     let a = complete t h v es k d in
-    let b = complete t h′ v′ es′ k′ d′ in
-    let u = unique (a .2) (subst (λ s. Reading (t .verdict) true s 0 (b .0) (b .1)) (sym same) (b .2)) in
-    a .3 ∙ ap (map (entry-of t)) (u .0) ∙ sym (b .3)
+    let b = complete t′ h′ v′ es′ k′ d′ in
+    let moved : Reading (t .verdict) true (accepted h) 0 (b .0) (b .1) =
+        subst (λ f. Reading f true (accepted h) 0 (b .0) (b .1)) (sym verdicts) (subst (λ s. Reading (t′ .verdict) true s 0 (b .0) (b .1)) (sym same) (b .2)) in
+    let u = unique (a .2) moved in
+    let entries : map (entry-of t) (a .0) ≡ map (entry-of t′) (b .0) = ap (map (entry-of t)) (u .0) ∙ ap (λ m. map (entry-by m) (b .0)) meanings in
+    let views : v ≡ v′ =
+        drained-view t h v es k d (a .0) (a .1) (a .2)
+        ∙ same-view refl (ap length same) (ap framed (u .0)) (ap length (u .0)) refl ∙ sym (drained-view t′ h′ v′ es′ k′ d′ (b .0) (b .1) (b .2)) in
+    (a .3 ∙ entries ∙ sym (b .3), ap totals views)
 
 -- the same record in two lists, behind as many others
 same-next : (front front′ more more′ : List Found) (f f′ : Found) → length front ≡ length front′ → front ++ (f ∷ more) ≡ front′ ++ (f′ ∷ more′) → f ≡ f′
@@ -154,10 +175,6 @@ module _ {t : Terms} (lawful : Lawful t) where
       let o = one-take h x y y′ r r′ s s′ in ap (λ z. took x z r) (o .0) ∙ ap (took x y′) (o .1)
   one-turn h p (close r r′) s s′ = ap closing (s ∙ sym s′)
   one-turn h p (tell s s′) a b = ap looked (a .3 ∙ ap (totals-of h p) (unique (a .2) (b .2) .0) ∙ sym (b .3))
-
-same-view : {a a′ b b′ c c′ : ℕ} {w w′ : List ℕ} {o o′ : Bool} → w ≡ w′ → a ≡ a′ → b ≡ b′ → c ≡ c′ → o ≡ o′
-    → _≡_ {A = View} (record { waiting = w; accepted = a; registered = b; records = c; closed = o }) (record { waiting = w′; accepted = a′; registered = b′; records = c′; closed = o′ })
-same-view pw pa pb pc po = cc
 
 -- one history is tied to one register and to one thing that an intake holds
 one-tie : (t : Terms) (h : History) (v v′ : View) (es es′ : List Entry) → Tied t h v es → Tied t h v′ es′ → (es ≡ es′) × (v ≡ v′)

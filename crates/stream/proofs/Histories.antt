@@ -37,7 +37,7 @@ close-open false u e = refl
 close-open true u e = absurd (let z : _≡_ {A = ℕ} 0 1 = cc in omega arith)
 
 -- what is said where there is no record is no record
-no-record : (c : Bool) (e : Entry) → _≡_ {A = Result Taken Fault} (Ok (Record e)) (Ok (nothing c)) → ⊥
+pub no-record : (c : Bool) (e : Entry) → _≡_ {A = Result Taken Fault} (Ok (Record e)) (Ok (nothing c)) → ⊥
 no-record true e q = let z : _≡_ {A = ℕ} 0 1 = cc in omega arith
 no-record false e q = let z : _≡_ {A = ℕ} 0 1 = cc in omega arith
 

@@ -4,11 +4,11 @@ use mathlib.Core.Path.{_≡_}
 use mathlib.Core.Bool.{true}
 use mathlib.Core.List.{List, [], _∷_, map}
 use Rattle.std.specs.declared.result.Result.{Result}
-use Rattle.std.specs.declared.result.Result.the-variants.{Ok, Err}
+use Rattle.std.specs.declared.result.Result.the-variants.{Ok}
 use Rattle.register.specs.declared.entry.Entry.{Entry}
 use Rattle.reading.specs.Reading.{Found, Reading}
 use Rattle.stream.specs.declared.answers.Taken.the-variants.{Drained}
-use Rattle.stream.specs.View.{View, Terms, entry-of}
+use Rattle.stream.specs.View.{View, Terms, entry-of, totals}
 use Rattle.stream.specs.History.{Turn, delivered, took, closing, looked, History, accepted}
 use Rattle.stream.specs.Law.{Tied}
 
@@ -23,11 +23,12 @@ Complete =
     (t : Terms) (h : History) (v : View) (es : List Entry) → Tied t h v es → Has-drained h
     → (rs : List Found) × (e : ℕ) × Reading (t .verdict) true (accepted h) 0 rs e × (es ≡ map (entry-of t) rs) × (v .waiting ≡ [])
 
--- Cuts do not matter: two drained histories with the same accepted bytes have the same register, however they were cut and interleaved.
+-- Cuts do not matter: two drained histories with the same accepted bytes, read by the same framing and formats, have the same register, and the
+-- same totals, however they were cut and interleaved, and whatever room their registers had.
 abbrev pub Cuts-do-not-matter : Type 0
 Cuts-do-not-matter =
-    (t : Terms) (h h′ : History) (v v′ : View) (es es′ : List Entry) → Tied t h v es → Tied t h′ v′ es′ → Has-drained h → Has-drained h′
-    → accepted h ≡ accepted h′ → es ≡ es′
+    (t t′ : Terms) (h h′ : History) (v v′ : View) (es es′ : List Entry) → t .verdict ≡ t′ .verdict → t .meaning ≡ t′ .meaning
+    → Tied t h v es → Tied t′ h′ v′ es′ → Has-drained h → Has-drained h′ → accepted h ≡ accepted h′ → (es ≡ es′) × (totals v ≡ totals v′)
 
 -- two turns ask the same, a take of the same space
 pub data Same-request : Turn → Turn → Type 0 where

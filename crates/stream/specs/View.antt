@@ -86,16 +86,20 @@ pub record Delivers (before after : View) (bytes : List ℕ) (r : Result (Unit {
   pub says : r ≡ ask-deliver (before .closed) (before .accepted) (length (before .waiting)) (length bytes)
   pub leaves : after ≡ cond (isOk r) (with-bytes before bytes) before
 
+-- the same, closed
+abbrev pub closed-view : View → View
+closed-view v = record {
+  waiting = v .waiting;
+  accepted = v .accepted;
+  registered = v .registered;
+  records = v .records;
+  closed = true;
+}
+
 -- what a closing does
 pub record Closes (before after : View) (r : Result (Unit {0}) Fault) : Type 0 where
   pub says : r ≡ ask-close (before .closed)
-  pub leaves : after ≡ record {
-    waiting = before .waiting;
-    accepted = before .accepted;
-    registered = before .registered;
-    records = before .records;
-    closed = true;
-  }
+  pub leaves : after ≡ closed-view before
 
 -- the totals of what an intake holds
 abbrev pub totals : View → Totals

@@ -12,15 +12,13 @@ ghost use Rattle.stream.specs.View.{View, view, new-view, Terms, Lawful, with-
 ghost use Rattle.stream.specs.History.{History, delivered, closing, looked};
 ghost use Rattle.stream.specs.Law.{Tied};
 use crate::answers::Fault;
+use crate::intake::BUFFER;
 use crate::intake::Intake;
+use crate::intake::MOST_WAITING;
 use register::entry::Totals;
 
-// How many bytes may be accepted in all, may wait, and fit the buffer.
+// How many bytes may be accepted in all.
 const MOST_ACCEPTED: u64 = 1 << 40;
-
-const MOST_WAITING: usize = 8192;
-
-const BUFFER: usize = 16384;
 
 impl Intake {
     // An intake that has accepted nothing, of a stream that is open.
@@ -113,10 +111,10 @@ impl Intake {
         ensures does { λ r. ⌜ Closes (view (now (self .entry))) (view (now (self .exit))) r ⌝ }
         ensures law { λ r. ⌜ ((t : Terms) (h : History) (es : Sequence Entry) → Tied t h (view (now (self .entry))) es → Tied t (closing r ∷ h) (view (now (self .exit))) es) ⌝ }
     {
-        self.shut()
+        self.mark_closed()
     }
 
-    fn shut(&mut self) -> Result<(), Fault>
+    fn mark_closed(&mut self) -> Result<(), Fault>
         ensures { λ r. ⌜ Closes (view (now (self .entry))) (view (now (self .exit))) r ⌝ }
     {
         if self.closed {

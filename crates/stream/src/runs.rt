@@ -1,7 +1,7 @@
 // Lists of requests, run one after the other.
 ghost use mathlib.Core.Path.{_≡_};
 ghost use mathlib.Core.List.{[], _∷_};
-ghost use Prim.Native.Nat.{ℕ, min};
+ghost use Prim.Native.Nat.{min, _≤_};
 ghost use lib.ListN.{length, take, drop};
 ghost use denote.Ref.{name};
 ghost use Rattle.common.specs.Lists.{items, room};
@@ -51,7 +51,8 @@ fn turn<F: Framing, G: Format>(
     bytes: &[u8],
     request: Request,
 )
-    ensures law { λ _. ⌜ Carries (terms (F·Framing .verdict (now (framing .entry))) (F·Framing .reach (now (framing .entry))) (G·Format .meaning (now (formats .entry))) (room (now (register .entry)))) (now (bytes .entry)) (length (now (space .entry))) (request ∷ []) (view (now (intake .entry))) (view (now (intake .exit))) (items (now (register .entry))) (items (now (register .exit))) ⌝ }
+    ensures law { λ _. ⌜ Carries (terms (F·Framing .verdict (now (framing .entry))) (F·Framing .reach (now (framing .entry))) (G·Format .meaning (now (formats .entry))) (room (now (register .entry)))) (now (bytes .entry)) (request ∷ []) (view (now (intake .entry))) (view (now (intake .exit))) (items (now (register .entry))) (items (now (register .exit))) (now (space .entry)) (now (space .exit)) ⌝ }
+    ensures rest { λ _. ⌜ (length (items (now (register .entry))) ≤ length (items (now (register .exit)))) × (drop (length (items (now (register .exit)))) (now (now (register .exit) .table)) ≡ drop (length (items (now (register .exit)))) (now (now (register .entry) .table))) ⌝ }
     ensures room { λ _. ⌜ room (now (register .exit)) ≡ room (now (register .entry)) ⌝ }
     ensures lends { λ _. ⌜ name (now (register .exit) .table) ≡ name (now (register .entry) .table) ⌝ }
 {
@@ -82,7 +83,8 @@ pub fn run<F: Framing, G: Format>(
     bytes: &[u8],
     requests: &[Request],
 )
-    ensures law { λ _. ⌜ Carries (terms (F·Framing .verdict (now (framing .entry))) (F·Framing .reach (now (framing .entry))) (G·Format .meaning (now (formats .entry))) (room (now (register .entry)))) (now (bytes .entry)) (length (now (space .entry))) (now (requests .entry)) (view (now (intake .entry))) (view (now (intake .exit))) (items (now (register .entry))) (items (now (register .exit))) ⌝ }
+    ensures law { λ _. ⌜ Carries (terms (F·Framing .verdict (now (framing .entry))) (F·Framing .reach (now (framing .entry))) (G·Format .meaning (now (formats .entry))) (room (now (register .entry)))) (now (bytes .entry)) (now (requests .entry)) (view (now (intake .entry))) (view (now (intake .exit))) (items (now (register .entry))) (items (now (register .exit))) (now (space .entry)) (now (space .exit)) ⌝ }
+    ensures rest { λ _. ⌜ (length (items (now (register .entry))) ≤ length (items (now (register .exit)))) × (drop (length (items (now (register .exit)))) (now (now (register .exit) .table)) ≡ drop (length (items (now (register .exit)))) (now (now (register .entry) .table))) ⌝ }
     ensures room { λ _. ⌜ room (now (register .exit)) ≡ room (now (register .entry)) ⌝ }
     ensures lends { λ _. ⌜ name (now (register .exit) .table) ≡ name (now (register .entry) .table) ⌝ }
 {
@@ -100,7 +102,8 @@ pub fn run_new<F: Framing, G: Format>(
     bytes: &[u8],
     requests: &[Request],
 ) -> Totals
-    ensures { λ r. ⌜ Ran (terms (F·Framing .verdict (now (framing .entry))) (F·Framing .reach (now (framing .entry))) (G·Format .meaning (now (formats .entry))) (length (now (table .entry)))) (now (bytes .entry)) (length (now (space .entry))) (now (requests .entry)) r (take (r .records) (now (table .exit))) ⌝ }
+    ensures ran { λ r. ⌜ Ran (terms (F·Framing .verdict (now (framing .entry))) (F·Framing .reach (now (framing .entry))) (G·Format .meaning (now (formats .entry))) (length (now (table .entry)))) (now (bytes .entry)) (now (requests .entry)) (now (space .entry)) (now (space .exit)) r (take (r .records) (now (table .exit))) ⌝ }
+    ensures rest { λ r. ⌜ drop (r .records) (now (table .exit)) ≡ drop (r .records) (now (table .entry)) ⌝ }
 {
     let mut intake = Intake::new();
     let mut register = List::new(table);

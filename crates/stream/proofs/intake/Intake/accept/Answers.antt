@@ -1,28 +1,17 @@
-use mathlib.Core.Path.{_≡_, refl, sym, _∙_}
-use mathlib.Core.Bool.{true, false}
-use mathlib.Core.List.{[], _∷_}
-use Rattle.std.specs.declared.result.Result.the-variants.{Ok}
-use Rattle.stream.specs.History.{delivered, closing}
-use Rattle.stream.proofs.Feedings.{closes-it, was-open}
+use mathlib.Core.Path.{sym}
+use Rattle.stream.proofs.Feedings.{accepts-last, accepts-else}
+use Rattle.std.specs.Results.{isOk}
+use Rattle.std.proofs.shelf.Tests.{both-ways}
 use Rattle.stream.proofs.intake.Intake.accept.Needs as need
+use Rattle.stream.proofs.intake.Intake.accept.Needs.{else-last·by·then-last·else-is-ok, else-last·by·else-last}
 
-pub returns-then-last : need.returns-then-last
-returns-then-last c t h es k =
-    let piece = delivered (c .args .bytes .now) (Ok (c .in-rest .field-0)) in
-    let tied = c .close .ensures .law t (piece ∷ h) es (c .in-rest .ensures tt .law t h es k) in
-    record {
-      turns = closing (c .close .result) ∷ (piece ∷ []);
-      stands = tied;
-      takes-in = λ _. refl;
-      shuts = λ ok. closes-it (piece ∷ h) (c .close .result) ok ∙ sym (c .if-last .taken);
-    }
+pub returns-then-is-ok : need.returns-then-is-ok
+returns-then-is-ok c =
+    accepts-last (c .deliver-answer .result) (c .deliver-answer .ensures .does) (c .close .ensures .does .leaves) (sym (c .if-is-ok .ensures tt .value)) (c .if-last .taken)
 
-pub returns : need.returns
-returns c t h es k =
-    let tied = c .in-rest .ensures tt .law t h es k in
-    record {
-      turns = delivered (c .args .bytes .now) (Ok (c .in-rest .field-0)) ∷ [];
-      stands = tied;
-      takes-in = λ _. refl;
-      shuts = λ _. was-open (c .args .last) (c .if-last .left) tied;
-    }
+pub returns-else-last : need.returns-else-last
+returns-else-last c = accepts-else (c .deliver-answer .result) (c .deliver-answer .ensures .does)
+    (λ ok. elim (c .else-last .came) [
+      else-last·by·then-last·else-is-ok w ↦ absurd (both-ways (isOk (c .deliver-answer .result)) (sym (w .if-is-ok .ensures tt .value)) ok)
+      | else-last·by·else-last w ↦ w .if-last .left
+    ])
