@@ -23,7 +23,12 @@ use std::error::AnyError;
 use std::io::BufWriter;
 use std::io::Stdout;
 use std::io::Write;
+use stream::answers::Taken;
 use stream::intake::Intake;
+use velocity::df3::Df3;
+use velocity::df3::Df3Format;
+use velocity::df7::Df7;
+use velocity::df7::Df7Format;
 
 const USAGE: &str = "usage: intake < FILE
 Registers the records of a byte stream: place, length, kind, series, verdict (0 where it is accepted) and the place of its fault of each,
@@ -47,8 +52,14 @@ fn register_all(
         second: Sentence,
     };
     let formats = Formats {
-        first: Text,
-        second: SentenceFields,
+        first: Formats {
+            first: Df3,
+            second: Df7,
+        },
+        second: Formats {
+            first: Text,
+            second: SentenceFields,
+        },
     };
     let mut piece = vec![in rt.alloc(); 0u8; SPACE]?;
     let mut space = vec![in rt.alloc(); 0u8; SPACE]?;
@@ -56,18 +67,10 @@ fn register_all(
         let free = intake.free();
         let n = fill(rt, &mut piece[0..free])?;
         let last = n < free;
-        if let Err(fault) = intake.feed(
-            &framing,
-            &formats,
-            register,
-            &mut space,
-            &piece[0..n],
-            last,
-        ) {
-            return Ok(Some(fault.refusal()));
-        }
-        if last {
-            return Ok(None);
+        match intake.feed(&framing, &formats, register, &mut space, &piece[0..n], last) {
+            Err(fault) => return Ok(Some(fault.refusal())),
+            Ok(Taken::Drained) => return Ok(None),
+            Ok(_) => {}
         }
     }
     Err("the input does not end".into())

@@ -1,0 +1,4 @@
+pub mod Layout
+pub mod Clock
+pub mod Df7
+pub mod Df3
