@@ -3,3 +3,4 @@ pub mod Clocks
 pub mod Verdicts
 pub mod Df7Laws
 pub mod Df3Laws
+pub mod Profiles

@@ -303,7 +303,7 @@ fn is_df3(kind: u8, bytes: &[u8]) -> bool
         && (bytes[2] == 0x15 || bytes[2] == 0x16 || bytes[2] == 0x18)
 }
 
-fn cells_of(bytes: &[u8]) -> usize
+pub(crate) fn cells_of(bytes: &[u8]) -> usize
     requires { ⌜ 86 ≤ length (now bytes) ⌝ }
     ensures value { λ r. ⌜ r ≡ cells (now (bytes .entry)) ⌝ }
     ensures few { λ r. ⌜ r ≤ 1023 ⌝ }
@@ -311,7 +311,7 @@ fn cells_of(bytes: &[u8]) -> usize
     (word_at(bytes, LAYOUT) % 1024) as usize
 }
 
-fn beams_of(bytes: &[u8]) -> usize
+pub(crate) fn beams_of(bytes: &[u8]) -> usize
     requires { ⌜ 86 ≤ length (now bytes) ⌝ }
     ensures value { λ r. ⌜ r ≡ beams (now (bytes .entry)) ⌝ }
     ensures few { λ r. ⌜ r ≤ 15 ⌝ }
@@ -320,7 +320,7 @@ fn beams_of(bytes: &[u8]) -> usize
 }
 
 // How many items an array has that a bit of the configuration includes.
-fn included(bit: u32, bytes: &[u8]) -> usize
+pub(crate) fn included(bit: u32, bytes: &[u8]) -> usize
     requires { ⌜ bit < 16 ⌝ ∗ ⌜ 86 ≤ length (now bytes) ⌝ }
     ensures value { λ r. ⌜ r ≡ included-items bit (now (bytes .entry)) ⌝ }
     ensures few { λ r. ⌜ r ≤ 15345 ⌝ }
@@ -340,7 +340,7 @@ fn amplitude_position(bytes: &[u8]) -> usize
     bytes[11] as usize + 2 * included(5, bytes)
 }
 
-fn correlation_position(bytes: &[u8]) -> usize
+pub(crate) fn correlation_position(bytes: &[u8]) -> usize
     requires { ⌜ 86 ≤ length (now bytes) ⌝ }
     ensures value { λ r. ⌜ r ≡ correlation-position (now (bytes .entry)) ⌝ }
     ensures few { λ r. ⌜ r ≤ 46290 ⌝ }
@@ -417,7 +417,7 @@ fn judge_claimed(bytes: &[u8]) -> Judgement
     }
 }
 
-fn judge_df3(kind: u8, bytes: &[u8]) -> Judgement
+pub(crate) fn judge_df3(kind: u8, bytes: &[u8]) -> Judgement
     ensures { λ r. ⌜ r ≡ df3-meaning kind (now (bytes .entry)) .judgement ⌝ }
 {
     if !is_df3(kind, bytes) {
