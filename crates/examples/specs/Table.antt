@@ -1,6 +1,7 @@
 -- Worked examples: what the definitions come to on small inputs. Assumes nothing.
-use Prim.Native.Nat.{ℕ, zero, suc}
-use mathlib.Core.Bool.{Bool, true, false, not, _&&_}
+use Prim.Native.Nat.{ℕ, zero, suc, _/_, _%_}
+use mathlib.Core.Path.{_≡_}
+use mathlib.Core.Bool.{Bool, true, false, not, _&&_, cond}
 use mathlib.Core.List.{List, [], _∷_, _++_}
 use lib.Chars.{codes}
 use lib.Dec.{eqb}
@@ -17,6 +18,12 @@ use Rattle.reading.specs.Reading.{found, Reading}
 use Rattle.format.specs.Meaning.{Meaning}
 use Rattle.format.specs.Sentence.{sentence-meaning}
 use Rattle.format.specs.Text.{text-meaning}
+use Rattle.format.specs.declared.format.Part.{Part}
+use Rattle.format.specs.Items.{item-of}
+use Rattle.velocity.specs.Df3.{df3-meaning}
+use Rattle.velocity.specs.Profile.{centre-of}
+use lib.IntN.{negsuc}
+use Rattle.std.specs.declared.result.Result.the-variants.{Ok}
 use Rattle.stream.specs.Answers.{ask-deliver}
 
 pub data Row : Type 0 where
@@ -89,6 +96,50 @@ with-payload n = sentence-of (replicate n 65)
 abbrev with-commas : ℕ → List ℕ
 with-commas n = sentence-of (replicate n 44)
 
+-- a DF3 record of one beam and one cell, cell size 1,000 and blanking 50: its offset, configuration, date, time, nominal correlation, and what follows the fixed fields
+abbrev df3 : ℕ → ℕ → List ℕ → List ℕ → ℕ → List ℕ → List ℕ
+df3 offset configuration date time nominal rest =
+    let body : List ℕ =
+    3 ∷ (offset ∷ (configuration ∷ (0 ∷ (replicate 4 0 ++ (date ++ (time ++ (replicate 14 0
+    ++ (1 ∷ (0x10 ∷ (0xE8 ∷ (3 ∷ (50 ∷ (0 ∷ (nominal ∷ (replicate 39 0 ++ rest))))))))))))))) in
+    header-of 0x15 body ++ body
+
+-- a date (year since 1900, month from 0, day) and a time (hour, minute, second, hundred microseconds)
+abbrev date : ℕ → ℕ → ℕ → List ℕ
+date year month day = year ∷ (month ∷ (day ∷ []))
+
+abbrev time : ℕ → ℕ → ℕ → ℕ → List ℕ
+time hour minute second hundred = hour ∷ (minute ∷ (second ∷ (hundred % 256 ∷ (hundred / 256 ∷ []))))
+
+abbrev on : List ℕ → List ℕ
+on d = df3 76 0 d (time 0 0 0 0) 0 []
+
+abbrev at : List ℕ → List ℕ
+at t = df3 76 0 (date 100 1 29) t 0 []
+
+abbrev with-offset : ℕ → List ℕ
+with-offset o = df3 o 0 (date 100 1 29) (time 0 0 0 0) 0 []
+
+-- the configuration's bit 7 includes correlations
+abbrev with-correlations : ℕ → List ℕ → List ℕ
+with-correlations nominal rest = df3 76 0x80 (date 100 1 29) (time 0 0 0 0) nominal rest
+
+abbrev df3-row : List ℕ → ℕ → ℕ → Row
+df3-row s number place = meaning (df3-meaning 1 s) number place (cond (eqb number 0) 41 0)
+
+abbrev df3-rows : List Row
+df3-rows =
+    -- 29 February 2000 is a date, and 1900, 2023 had none
+    df3-row (on (date 100 1 29)) 0 0 ∷ (df3-row (on (date 0 1 29)) 14 20 ∷ (df3-row (on (date 0 1 28)) 0 0 ∷ (df3-row (on (date 123 1 29)) 14 20 ∷ (df3-row (on (date 124 1 29)) 0 0
+    ∷ (df3-row (on (date 124 11 31)) 0 0 ∷ (df3-row (on (date 124 12 1)) 14 19 ∷ (df3-row (on (date 124 3 31)) 14 20 ∷ (df3-row (on (date 124 0 0)) 14 20
+    -- each field of the time at its last value and past it
+    ∷ (df3-row (at (time 23 59 59 9999)) 0 0 ∷ (df3-row (at (time 24 59 59 9999)) 14 21 ∷ (df3-row (at (time 23 60 59 9999)) 14 22
+    ∷ (df3-row (at (time 23 59 60 9999)) 14 23 ∷ (df3-row (at (time 23 59 59 10000)) 14 24
+    -- the offset, the arrays' end and the correlations
+    ∷ (df3-row (with-offset 76) 0 0 ∷ (df3-row (with-offset 75) 13 11 ∷ (df3-row (with-offset 77) 13 11
+    ∷ (df3-row (with-correlations 100 (100 ∷ [])) 0 0 ∷ (df3-row (with-correlations 100 []) 16 12 ∷ (df3-row (with-correlations 101 (100 ∷ [])) 17 46
+    ∷ (df3-row (with-correlations 100 (101 ∷ [])) 17 86 ∷ []))))))))))))))))))))
+
 abbrev pub table : List Row
 table =
     sum [] 0xB58C
@@ -117,7 +168,7 @@ table =
     ∷ (meaning (text-meaning 1 pnorc1) 10 0 0
     ∷ (keeps 8192 true
     ∷ (keeps 8193 false
-    ∷ [])))))))))))))))))))))))))
+    ∷ df3-rows)))))))))))))))))))))))))
 
 -- the verdict of the pair of both framings
 abbrev pub both : List ℕ → Verdict
@@ -130,3 +181,11 @@ One-passed = Reading both true (0xA5 ∷ tag) 0 (found (0xA5 ∷ tag) 1 57 1 ∷
 -- the first two bytes of a header, and then the end: both are passed over
 abbrev pub Two-passed : Type 0
 Two-passed = Reading both true (0xA5 ∷ (0x0A ∷ [])) 0 [] 2
+
+-- FE FF, as a signed item of two bytes, is -2
+abbrev pub Minus-two : Type 0
+Minus-two = item-of (0xFE ∷ (0xFF ∷ [])) (record { code = 1; place = 0; width = 2; count = 1; signed = true }) 0 ≡ Ok (negsuc 1)
+
+-- with blanking 50 and cell size 1,000, the centre of cell 1 lies at 1,500
+abbrev pub Centre : Type 0
+Centre = centre-of 1 (on (date 100 1 29)) 1 ≡ Ok 1500

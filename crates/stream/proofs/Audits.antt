@@ -128,12 +128,12 @@ cuts-do-not-matter t t′ h h′ v v′ es es′ verdicts meanings k k′ d d′
     let a = complete t h v es k d in
     let b = complete t′ h′ v′ es′ k′ d′ in
     let moved : Reading (t .verdict) true (accepted h) 0 (b .0) (b .1) =
-        subst (λ f. Reading f true (accepted h) 0 (b .0) (b .1)) (sym verdicts) (subst (λ s. Reading (t′ .verdict) true s 0 (b .0) (b .1)) (sym same) (b .2)) in
+    subst (λ f. Reading f true (accepted h) 0 (b .0) (b .1)) (sym verdicts) (subst (λ s. Reading (t′ .verdict) true s 0 (b .0) (b .1)) (sym same) (b .2)) in
     let u = unique (a .2) moved in
     let entries : map (entry-of t) (a .0) ≡ map (entry-of t′) (b .0) = ap (map (entry-of t)) (u .0) ∙ ap (λ m. map (entry-by m) (b .0)) meanings in
     let views : v ≡ v′ =
-        drained-view t h v es k d (a .0) (a .1) (a .2)
-        ∙ same-view refl (ap length same) (ap framed (u .0)) (ap length (u .0)) refl ∙ sym (drained-view t′ h′ v′ es′ k′ d′ (b .0) (b .1) (b .2)) in
+    drained-view t h v es k d (a .0) (a .1) (a .2)
+    ∙ same-view refl (ap length same) (ap framed (u .0)) (ap length (u .0)) refl ∙ sym (drained-view t′ h′ v′ es′ k′ d′ (b .0) (b .1) (b .2)) in
     (a .3 ∙ entries ∙ sym (b .3), ap totals views)
 
 -- the same record in two lists, behind as many others

@@ -38,6 +38,6 @@ pub carry-more : {bytes : List ℕ} {f : List ℕ → Verdict} {reach : ℕ} {me
     → Carries (terms f reach meaning m′) bytes (q ∷ []) v′ v″ es′ es″ s′ s″ → Carries (terms f reach meaning m) bytes (take (i + 1) qs) v v″ es es″ s s″
 carry-more {bytes} {f} {reach} {meaning} {m} {m′} {v} {v′} {v″} {es} {es′} {es″} {s} {s′} {s″} qs i q before same less is this =
     let this₁ : Carries (terms f reach meaning m) bytes (q ∷ []) v′ v″ es′ es″ s′ s″ =
-        subst (λ m. Carries (terms f reach meaning m) bytes (q ∷ []) v′ v″ es′ es″ s′ s″) same this in
+    subst (λ m. Carries (terms f reach meaning m) bytes (q ∷ []) v′ v″ es′ es″ s′ s″) same this in
     let one-more : take i qs ++ (q ∷ []) ≡ take (i + 1) qs = ap (λ x. take i qs ++ (x ∷ [])) is ∙ sym (take-more qs i q less) in
     subst (λ l. Carries (terms f reach meaning m) bytes l v v″ es es″ s s″) one-more (carry-on before this₁)

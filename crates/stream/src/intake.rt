@@ -3,6 +3,7 @@ ghost use Prim.Native.Nat.{_+_, _-_, _≤_};
 
 // How many bytes may wait, and fit the buffer.
 pub(crate) const MOST_WAITING: usize = 8192;
+
 pub(crate) const BUFFER: usize = 16384;
 
 // The bytes from `start` to `end` wait. The buffer is twice as long as what may wait, so that no byte is moved to its front twice:

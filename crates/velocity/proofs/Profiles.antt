@@ -127,7 +127,8 @@ pub item-found : (kind : ℕ) (s : List ℕ) (bit beam cell i : ℕ) → is-acce
     → (Ok i ≡ of-array kind s (included bit s) beam cell (λ n. n)) × (i < included bit s)
 item-found kind s bit beam cell i good there e =
     let x = some-there (exist s beam cell) i (item-number s beam cell) e in
-    let both = and-from (is-accepted kind s) (ltb 0 (included bit s)) good (lt-ltb 0 (included bit s) there) in
-    (ap Ok (x .1) ∙ sym (cond-true (is-accepted kind s && ltb 0 (included bit s)) (cond (exist s beam cell) (Ok (item-number s beam cell)) (Err NoCell)) (Err NotDf3) both
-       ∙ cond-true (exist s beam cell) (Ok (item-number s beam cell)) (Err NoCell) (x .0)),
-     omega (arith, x .1, item-below s beam cell (x .0), included-all bit s there))
+    let both = and-from (is-accepted kind s) (ltb 0 (included bit s)) good (lt-ltb 0 (included bit s) there) in (
+      ap Ok (x .1) ∙ sym (cond-true (is-accepted kind s && ltb 0 (included bit s)) (cond (exist s beam cell) (Ok (item-number s beam cell)) (Err NoCell)) (Err NotDf3) both
+          ∙ cond-true (exist s beam cell) (Ok (item-number s beam cell)) (Err NoCell) (x .0)),
+      omega (arith, x .1, item-below s beam cell (x .0), included-all bit s there),
+    )

@@ -103,7 +103,13 @@ fn item_of(bytes: &[u8], beam: usize, cell: usize) -> Option<usize>
 }
 
 // The number of the item of a beam and a cell in an array that a bit of the configuration includes.
-fn array_item(kind: u8, bytes: &[u8], bit: u32, beam: usize, cell: usize) -> Result<usize, ProfileFault>
+fn array_item(
+    kind: u8,
+    bytes: &[u8],
+    bit: u32,
+    beam: usize,
+    cell: usize,
+) -> Result<usize, ProfileFault>
     requires { ⌜ bit < 16 ⌝ }
     ensures value { λ r. ⌜ r ≡ of-array kind (now (bytes .entry)) (included-items bit (now (bytes .entry))) beam cell (λ i. i) ⌝ }
     ensures within { λ r. ⌜ Item-within (now (bytes .entry)) bit r ⌝ }
@@ -118,7 +124,12 @@ fn array_item(kind: u8, bytes: &[u8], bit: u32, beam: usize, cell: usize) -> Res
 }
 
 // The velocity of a beam and a cell.
-pub fn velocity_at(kind: u8, bytes: &[u8], beam: usize, cell: usize) -> Result<Velocity, ProfileFault>
+pub fn velocity_at(
+    kind: u8,
+    bytes: &[u8],
+    beam: usize,
+    cell: usize,
+) -> Result<Velocity, ProfileFault>
     ensures { λ r. ⌜ r ≡ velocity-of kind (now (bytes .entry)) beam cell ⌝ }
 {
     match array_item(kind, bytes, VELOCITY_BIT, beam, cell) {
@@ -142,7 +153,12 @@ fn percent(value: u8) -> Percent
 }
 
 // The correlation of a beam and a cell.
-pub fn correlation(kind: u8, bytes: &[u8], beam: usize, cell: usize) -> Result<Percent, ProfileFault>
+pub fn correlation(
+    kind: u8,
+    bytes: &[u8],
+    beam: usize,
+    cell: usize,
+) -> Result<Percent, ProfileFault>
     ensures { λ r. ⌜ Cases r (λ p. correlation-of kind (now (bytes .entry)) beam cell ≡ Ok (p .value)) (λ e. correlation-of kind (now (bytes .entry)) beam cell ≡ Err e) ⌝ }
 {
     match array_item(kind, bytes, CORRELATION_BIT, beam, cell) {

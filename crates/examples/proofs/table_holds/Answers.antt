@@ -10,4 +10,6 @@ returns c = record {
   rows = refl;
   one = skips (omega arith) refl (takes (omega arith) refl (ends (omega arith)));
   two = cuts (omega arith) refl refl (skips (omega arith) refl (ends (omega arith)));
+  item = refl;
+  centre = refl;
 }

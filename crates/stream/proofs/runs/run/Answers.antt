@@ -21,9 +21,13 @@ loop-request-again g c =
     let i = c .loop-request .request-index in
     let q = getD qs i (Deliver 0 0) in
     let inv = c .loop-request .inv in
-    let turn = c .turn .ensures in
-    (carry-more qs i q (inv .0) (inv .1) (c .loop-request-test .taken) (getD-default qs i (Deliver 0 0) q (c .loop-request-test .taken)) (turn .law),
-     turn .room ∙ inv .1, turn .lends ∙ inv .2, omega (arith, turn .rest .0, inv .3), turn .rest .1 ∙ same-further _ _ _ _ (turn .rest .0) (inv .4))
+    let turn = c .turn .ensures in (
+      carry-more qs i q (inv .0) (inv .1) (c .loop-request-test .taken) (getD-default qs i (Deliver 0 0) q (c .loop-request-test .taken)) (turn .law),
+      turn .room ∙ inv .1,
+      turn .lends ∙ inv .2,
+      omega (arith, turn .rest .0, inv .3),
+      turn .rest .1 ∙ same-further _ _ _ _ (turn .rest .0) (inv .4),
+    )
 
 pub returns : need.returns
 returns g c =

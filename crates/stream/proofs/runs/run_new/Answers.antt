@@ -24,14 +24,14 @@ returns g c =
     let last = c .run .last .register in
     let held = view (c .run .last .intake) in
     let law = subst (λ m. Carries (terms (g .F·Framing .verdict (c .args .framing .now)) (g .F·Framing .reach (c .args .framing .now)) (g .G·Format .meaning (c .args .formats .now)) m)
-        (c .args .bytes .now) (c .args .requests .now) (view (c .new-intake .result)) held (items (c .new-register .result)) (items last) (c .args .space .now) (c .run .last .space)) wide (c .run .ensures .law) in
+    (c .args .bytes .now) (c .args .requests .now) (view (c .new-intake .result)) held (items (c .new-register .result)) (items last) (c .args .space .now) (c .run .last .space)) wide (c .run .ensures .law) in
     let ran = law [] start in
     let looked-at = c .tell .ensures .law t (ran .0) (items last) (ran .2) in
     let long : length (items last) ≡ last .len = length-take-le (last .len) (last .table .now) (last .within) in
     let count : c .tell .result .records ≡ last .len = ap (λ (s : Totals). s .records) (c .tell .ensures .does) ∙ sym (entries-are (ran .2)) ∙ long in
     let all : (es : List Entry) → es ≡ items last → Ran t (c .args .bytes .now) (c .args .requests .now) (c .args .space .now) (c .run .last .space) (c .tell .result) es =
-        λ es e. record { history = ran .0; follows = ran .1; view = held; stands = subst (λ l. Tied t (looked (c .tell .result) ∷ ran .0) held l) (sym e) looked-at } in
+    λ es e. record { history = ran .0; follows = ran .1; view = held; stands = subst (λ l. Tied t (looked (c .tell .result) ∷ ran .0) held l) (sym e) looked-at } in
     let rest : drop (last .len) (last .table .now) ≡ drop (last .len) (c .args .table .now) =
-        ap (λ n. drop n (last .table .now)) (sym long) ∙ c .run .ensures .rest .1 ∙ ap (drop (length (items last))) (c .new-register .ensures .table) ∙ ap (λ n. drop n (c .args .table .now)) long in
+    ap (λ n. drop n (last .table .now)) (sym long) ∙ c .run .ensures .rest .1 ∙ ap (drop (length (items last))) (c .new-register .ensures .table) ∙ ap (λ n. drop n (c .args .table .now)) long in
     let kept : (table : List Entry) → table ≡ last .table .now → drop (last .len) table ≡ drop (last .len) (c .args .table .now) = λ table e. ap (drop (last .len)) e ∙ rest in
     record { ran = all _ (rw count (search needs)); rest = rw count (kept _ (search needs)) }

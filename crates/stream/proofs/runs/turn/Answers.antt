@@ -20,10 +20,10 @@ returns-in-Deliver g c = record {
 pub returns-in-Take : need.returns-in-Take
 returns-in-Take g c = record {
   law = λ h k.
-    let s = c .args .space .now in
-    let x = take (c .lent-n .result - 0) s in
-    let front : x ≡ take (min (c .in-Take .room) (length s)) s = ap (λ n. take n s) (omega (arith, c .lent-n .ensures)) in
-    (took x (c .take .last .space) (c .take .result) ∷ h, one-turn (c .in-Take .is) (taking front (ap (λ n. c .take .last .space ++ drop n s) (omega (arith, c .lent-n .ensures)))), c .take .ensures .law h k);
+      let s = c .args .space .now in
+      let x = take (c .lent-n .result - 0) s in
+      let front : x ≡ take (min (c .in-Take .room) (length s)) s = ap (λ n. take n s) (omega (arith, c .lent-n .ensures)) in
+      (took x (c .take .last .space) (c .take .result) ∷ h, one-turn (c .in-Take .is) (taking front (ap (λ n. c .take .last .space ++ drop n s) (omega (arith, c .lent-n .ensures)))), c .take .ensures .law h k);
   rest = (grows (c .take .ensures .does), c .take .ensures .rest);
   room = c .take .ensures .room;
   lends = c .take .ensures .lends;

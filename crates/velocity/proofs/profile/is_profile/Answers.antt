@@ -11,7 +11,7 @@ returns c =
     record {
       value = ap (λ n. eqb n 0) number;
       good = λ e.
-        let zero = sym number ∙ eqb-true (c .judge-df3 .result .number) 0 e in
-        let g = df3-accepted (c .args .kind) (c .args .bytes .now) zero .1 in
-        (g .long, g .most, none-high (c .args .kind) (c .args .bytes .now) zero);
+          let zero = sym number ∙ eqb-true (c .judge-df3 .result .number) 0 e in
+          let g = df3-accepted (c .args .kind) (c .args .bytes .now) zero .1 in
+          (g .long, g .most, none-high (c .args .kind) (c .args .bytes .now) zero);
     }

@@ -12,6 +12,6 @@ returns-then-is-ok c =
 pub returns-else-last : need.returns-else-last
 returns-else-last c = accepts-else (c .deliver-answer .result) (c .deliver-answer .ensures .does)
     (λ ok. elim (c .else-last .came) [
-      else-last·by·then-last·else-is-ok w ↦ absurd (both-ways (isOk (c .deliver-answer .result)) (sym (w .if-is-ok .ensures tt .value)) ok)
+      | else-last·by·then-last·else-is-ok w ↦ absurd (both-ways (isOk (c .deliver-answer .result)) (sym (w .if-is-ok .ensures tt .value)) ok)
       | else-last·by·else-last w ↦ w .if-last .left
     ])

@@ -12,10 +12,12 @@ loop-answer-holds g c = (none, refl, refl, refl)
 pub loop-answer-again : need.loop-answer-again
 loop-answer-again g c =
     let i = c .loop-answer .inv in
-    let d = c .take-answer .ensures .does in
-    (more (i .0) (at-room (i .1) d) (sym (c .if-not-is-record .ensures tt)),
-     c .take-answer .ensures .room ∙ i .1, c .take-answer .ensures .lends ∙ i .2,
-     c .take-answer .ensures .rest ∙ same-further _ _ _ _ (grows d) (i .3))
+    let d = c .take-answer .ensures .does in (
+      more (i .0) (at-room (i .1) d) (sym (c .if-not-is-record .ensures tt)),
+      c .take-answer .ensures .room ∙ i .1,
+      c .take-answer .ensures .lends ∙ i .2,
+      c .take-answer .ensures .rest ∙ same-further _ _ _ _ (grows d) (i .3),
+    )
 
 pub loop-answer-less : need.loop-answer-less
 loop-answer-less g c = falls (c .take-answer .ensures .does) (sym (c .if-not-is-record .ensures tt))
