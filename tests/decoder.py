@@ -175,6 +175,9 @@ def df3(r):
     if len(d) >= 76:
         d[30:32] = struct.pack('<H', beams << 12 | r.randrange(4) << 10 | cells)
         d[36] = r.choice([100, 100, 100, 0, 101])
+        d[58] = r.choice([-128, -20, -19, -18, -3, -3, -3, 0, 2, 127]) & 0xFF
+        if config & 0x20:
+            d[offset:offset + 2 * n] = r.randbytes(len(d[offset:offset + 2 * n]))
         if r.randrange(3) == 0:
             d[r.randrange(len(d))] = r.randrange(256)
     return bytes(d)

@@ -6,6 +6,7 @@ import sys
 
 sys.path.insert(0, str(pathlib.Path(__file__).parent))
 import decoder as d
+import printer
 
 ROOT = pathlib.Path(__file__).resolve().parent.parent
 
@@ -85,13 +86,26 @@ def test_intake_refuses_a_stream_that_its_register_cannot_hold():
         assert lines[-1].split()[3] == b'3968' and accepted == 3968 * 7 + waiting
 
 
+def test_fields_prints_what_the_printer_finds():
+    for b in streams(200):
+        r = run('fields', b)
+        assert (r.returncode, r.stdout) == (0, printer.printed(b)), b.hex()
+
+
+def test_fields_goes_on_when_a_register_is_full():
+    for count in [63, 64, 65, 128, 5000]:
+        b = d.PNORC1 * count
+        r = run('fields', b)
+        assert (r.returncode, r.stdout) == (0, printer.printed(b)), count
+
+
 def test_random_streams_meet_every_verdict():
     seen = {d.verdict(r, kind)[0] for b in streams(200) for _, r, kind in d.records(b)}
     assert seen == {0, 10, 11, 12, 13, 14, 15, 16, 17, 18, 19}, seen
 
 
 def test_programs_tell_their_usage():
-    for program in ['frames', 'intake']:
+    for program in ['frames', 'intake', 'fields']:
         r = run(program, b'', '--help')
         assert r.returncode == 0 and not r.stderr and r.stdout.startswith(b'usage: ' + program.encode())
         r = run(program, b'', '--no-such-option')

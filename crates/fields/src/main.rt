@@ -33,6 +33,7 @@ use velocity::df7::Df7;
 use velocity::df7::Df7Format;
 
 mod names;
+mod numbers;
 mod printing;
 
 const USAGE: &str = "usage: fields < FILE

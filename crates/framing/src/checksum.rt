@@ -1,4 +1,4 @@
-// The checksum of frames and blocks.
+// The checksum of frames.
 ghost use mathlib.Core.Path.{_≡_};
 ghost use Prim.Native.Nat.{_+_, _-_, _*_, _%_};
 ghost use lib.ListN.{length, getD};
