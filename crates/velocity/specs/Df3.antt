@@ -66,13 +66,25 @@ abbrev pub arrays-end : List ℕ → ℕ
 arrays-end s = correlation-position s + correlations s
 
 -- the spare bytes up to the offset, velocities, amplitudes, correlations, and the tail up to the data's end
+abbrev pub df3-spare : List ℕ → Field
+df3-spare s = field-at 76 1 (df3-offset s - 76) false
+
+abbrev pub velocity-array : List ℕ → Field
+velocity-array s = field-at (df3-offset s) 2 (velocities s) true
+
+abbrev pub amplitude-array : List ℕ → Field
+amplitude-array s = field-at (amplitude-position s) 1 (amplitudes s) false
+
+abbrev pub correlation-array : List ℕ → Field
+correlation-array s = field-at (correlation-position s) 1 (correlations s) false
+
+abbrev pub df3-tail : List ℕ → Field
+df3-tail s = field-at (arrays-end s) 1 (data-size s - arrays-end s) false
+
 abbrev pub df3-others : List ℕ → List Part
 df3-others s =
-    field-part 37 (field-at 76 1 (df3-offset s - 76) false)
-    ∷ (field-part 38 (field-at (df3-offset s) 2 (velocities s) true)
-    ∷ (field-part 39 (field-at (amplitude-position s) 1 (amplitudes s) false)
-    ∷ (field-part 40 (field-at (correlation-position s) 1 (correlations s) false)
-    ∷ (field-part 41 (field-at (arrays-end s) 1 (data-size s - arrays-end s) false) ∷ []))))
+    field-part 37 (df3-spare s)
+    ∷ (field-part 38 (velocity-array s) ∷ (field-part 39 (amplitude-array s) ∷ (field-part 40 (correlation-array s) ∷ (field-part 41 (df3-tail s) ∷ []))))
 
 abbrev pub df3-parts : List ℕ → List Part
 df3-parts s = field-parts 1 df3-fields ++ df3-others s

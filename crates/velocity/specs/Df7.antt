@@ -28,10 +28,14 @@ abbrev pub df7-offset : List ℕ → ℕ
 df7-offset s = word s (2 + data-place)
 
 -- the spare bytes up to the offset, and the tail up to the data's end
+abbrev pub df7-spare : List ℕ → Field
+df7-spare s = field-at 60 1 (df7-offset s - 60) false
+
+abbrev pub df7-tail : List ℕ → Field
+df7-tail s = field-at (df7-offset s) 1 (data-size s - df7-offset s) false
+
 abbrev pub df7-others : List ℕ → List Part
-df7-others s =
-    field-part 22 (field-at 60 1 (df7-offset s - 60) false)
-    ∷ (field-part 23 (field-at (df7-offset s) 1 (data-size s - df7-offset s) false) ∷ [])
+df7-others s = field-part 22 (df7-spare s) ∷ (field-part 23 (df7-tail s) ∷ [])
 
 abbrev pub df7-parts : List ℕ → List Part
 df7-parts s = field-parts 1 df7-fields ++ df7-others s

@@ -5,7 +5,7 @@ ghost use denote.Ref.{name};
 ghost use lib.ListN.{length};
 ghost use Rattle.format.specs.Meaning.{Leaves, accepted};
 ghost use Rattle.velocity.specs.Layout.{data-size};
-ghost use Rattle.velocity.specs.Df3.{df3-claims, df3-judged, df3-arrayed, df3-meaning, df3-parts, df3-offset, cells, beams, included as included-items, amplitude-position, correlation-position, arrays-end, first-above, high-correlation};
+ghost use Rattle.velocity.specs.Df3.{df3-claims, df3-judged, df3-arrayed, df3-meaning, df3-parts, df3-offset, df3-fields, df3-spare, velocity-array, amplitude-array, correlation-array, df3-tail, cells, beams, included as included-items, amplitude-position, correlation-position, arrays-end, first-above, high-correlation};
 use crate::clock::clock_at;
 use crate::layout::Field;
 use crate::layout::field_part;
@@ -426,30 +426,69 @@ pub(crate) fn judge_df3(kind: u8, bytes: &[u8]) -> Judgement
     judge_claimed(bytes)
 }
 
+// The table.
+fn fixed_fields() -> [Field; 36]
+    ensures { λ r. ⌜ r ≡ df3-fields ⌝ }
+{
+    FIELDS
+}
+
+fn spare(bytes: &[u8]) -> Field
+    requires { ⌜ 86 ≤ length (now bytes) ⌝ ∗ ⌜ 76 ≤ df3-offset (now bytes) ⌝ }
+    ensures { λ r. ⌜ r ≡ df3-spare (now (bytes .entry)) ⌝ }
+{
+    plain_field(OFFSET_LEAST, bytes[11] as usize - OFFSET_LEAST)
+}
+
+fn velocity(bytes: &[u8]) -> Field
+    requires { ⌜ 86 ≤ length (now bytes) ⌝ }
+    ensures { λ r. ⌜ r ≡ velocity-array (now (bytes .entry)) ⌝ }
+{
+    Field {
+        position: bytes[11] as usize,
+        width: 2,
+        count: included(5, bytes),
+        signed: true,
+    }
+}
+
+fn amplitude(bytes: &[u8]) -> Field
+    requires { ⌜ 86 ≤ length (now bytes) ⌝ }
+    ensures { λ r. ⌜ r ≡ amplitude-array (now (bytes .entry)) ⌝ }
+{
+    plain_field(amplitude_position(bytes), included(6, bytes))
+}
+
+fn correlation(bytes: &[u8]) -> Field
+    requires { ⌜ 86 ≤ length (now bytes) ⌝ }
+    ensures { λ r. ⌜ r ≡ correlation-array (now (bytes .entry)) ⌝ }
+{
+    plain_field(correlation_position(bytes), included(7, bytes))
+}
+
+fn tail(bytes: &[u8]) -> Field
+    requires { ⌜ 86 ≤ length (now bytes) ⌝ ∗ ⌜ arrays-end (now bytes) ≤ data-size (now bytes) ⌝ }
+    ensures { λ r. ⌜ r ≡ df3-tail (now (bytes .entry)) ⌝ }
+{
+    let end = arrays_end(bytes);
+    plain_field(end, bytes.len() - HEADER - end)
+}
+
 // The parts of a record whose arrays end inside the data.
 fn list_df3(bytes: &[u8], out: &mut List<'_, Part>) -> Result<(), PartsFault>
     requires { ⌜ 86 ≤ length (now bytes) ⌝ ∗ ⌜ 76 ≤ df3-offset (now bytes) ⌝ ∗ ⌜ arrays-end (now bytes) ≤ data-size (now bytes) ⌝ }
     ensures leaves { λ r. ⌜ Leaves (accepted (df3-parts (now (bytes .entry)))) (now (out .entry)) (now (out .exit)) r ⌝ }
     ensures lends { λ _. ⌜ name (now (out .exit) .table) ≡ name (now (out .entry) .table) ⌝ }
 {
-    let offset = bytes[11] as usize;
-    let end = arrays_end(bytes);
-    let velocity = Field {
-        position: offset,
-        width: 2,
-        count: included(5, bytes),
-        signed: true,
-    };
-    let amplitude = plain_field(amplitude_position(bytes), included(6, bytes));
-    let correlation = plain_field(correlation_position(bytes), included(7, bytes));
+    let fields = fixed_fields();
     let others = [
-        field_part(37, plain_field(OFFSET_LEAST, offset - OFFSET_LEAST)),
-        field_part(38, velocity),
-        field_part(39, amplitude),
-        field_part(40, correlation),
-        field_part(41, plain_field(end, bytes.len() - HEADER - end)),
+        field_part(37, spare(bytes)),
+        field_part(38, velocity(bytes)),
+        field_part(39, amplitude(bytes)),
+        field_part(40, correlation(bytes)),
+        field_part(41, tail(bytes)),
     ];
-    list_layout(&FIELDS, &others, out)
+    list_layout(&fields, &others, out)
 }
 
 pub impl Format for Df3 as Df3Format {

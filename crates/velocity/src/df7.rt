@@ -4,7 +4,7 @@ ghost use Prim.Native.Nat.{_≤_};
 ghost use denote.Ref.{name};
 ghost use lib.ListN.{length};
 ghost use Rattle.format.specs.Meaning.{Leaves, accepted};
-ghost use Rattle.velocity.specs.Df7.{df7-claims, df7-judged, df7-meaning, df7-parts, df7-offset};
+ghost use Rattle.velocity.specs.Df7.{df7-claims, df7-judged, df7-meaning, df7-parts, df7-offset, df7-fields, df7-spare, df7-tail};
 ghost use Rattle.velocity.specs.Layout.{data-size};
 use crate::clock::clock_at;
 use crate::layout::Field;
@@ -225,18 +225,37 @@ fn judge_df7(kind: u8, bytes: &[u8]) -> Judgement
     judge_claimed(bytes)
 }
 
+// The table.
+fn fixed_fields() -> [Field; 21]
+    ensures { λ r. ⌜ r ≡ df7-fields ⌝ }
+{
+    FIELDS
+}
+
+fn spare(bytes: &[u8]) -> Field
+    requires { ⌜ 70 ≤ length (now bytes) ⌝ ∗ ⌜ 60 ≤ df7-offset (now bytes) ⌝ }
+    ensures { λ r. ⌜ r ≡ df7-spare (now (bytes .entry)) ⌝ }
+{
+    plain_field(OFFSET_LEAST, offset_of(bytes) - OFFSET_LEAST)
+}
+
+fn tail(bytes: &[u8]) -> Field
+    requires { ⌜ 70 ≤ length (now bytes) ⌝ ∗ ⌜ df7-offset (now bytes) ≤ data-size (now bytes) ⌝ }
+    ensures { λ r. ⌜ r ≡ df7-tail (now (bytes .entry)) ⌝ }
+{
+    let offset = offset_of(bytes);
+    plain_field(offset, bytes.len() - HEADER - offset)
+}
+
 // The parts of a record whose offset is inside the data.
 fn list_df7(bytes: &[u8], out: &mut List<'_, Part>) -> Result<(), PartsFault>
     requires { ⌜ 70 ≤ length (now bytes) ⌝ ∗ ⌜ 60 ≤ df7-offset (now bytes) ⌝ ∗ ⌜ df7-offset (now bytes) ≤ data-size (now bytes) ⌝ }
     ensures leaves { λ r. ⌜ Leaves (accepted (df7-parts (now (bytes .entry)))) (now (out .entry)) (now (out .exit)) r ⌝ }
     ensures lends { λ _. ⌜ name (now (out .exit) .table) ≡ name (now (out .entry) .table) ⌝ }
 {
-    let offset = offset_of(bytes);
-    let others = [
-        field_part(22, plain_field(OFFSET_LEAST, offset - OFFSET_LEAST)),
-        field_part(23, plain_field(offset, bytes.len() - HEADER - offset)),
-    ];
-    list_layout(&FIELDS, &others, out)
+    let fields = fixed_fields();
+    let others = [field_part(22, spare(bytes)), field_part(23, tail(bytes))];
+    list_layout(&fields, &others, out)
 }
 
 pub impl Format for Df7 as Df7Format {
