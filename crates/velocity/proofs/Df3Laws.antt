@@ -1,18 +1,16 @@
 -- The laws of DF3 records. Assumes nothing.
 use Prim.Native.Nat.{ℕ, _+_, _-_, _*_, _≤_, _<_}
 use mathlib.Core.Path.{_≡_, refl, ap, subst, _∙_}
-use mathlib.Core.Bool.{true, false, _&&_, _||_}
+use mathlib.Core.Bool.{true, false, _&&_}
 use mathlib.Core.List.{List, [], _∷_, _++_}
 use native.Mathlib.Omega.{arith}
 use lib.Dec.{eqb, leb, ltb}
-use lib.ListN.{length, getD, take, drop, length-take, length-drop}
+use lib.ListN.{length, getD, take, drop, length-take}
 use Rattle.std.specs.declared.option.Option.{Option}
 use Rattle.std.specs.declared.option.Option.the-variants.{Some, None}
 use Rattle.std.proofs.shelf.Tests.{cond-both, and-parts, leb-true, ltb-false}
-use Rattle.format.specs.declared.format.Part.{Part}
 use Rattle.format.specs.Meaning.{Meaning, Laws, Accepted, unclaimed, faulty, accepted, data-place}
 use Rattle.velocity.specs.Layout.{data-size, Shape, shape, shapes, total, layout, field-part, field-parts, field-at}
-use Rattle.velocity.specs.Clock.{clock-at}
 use Rattle.velocity.specs.Df3.{df3-fields, df3-offset, beams, cells, velocities, amplitudes, correlations, correlation-position, arrays-end, df3-parts, df3-claims, first-above, high-correlation, df3-correlated, df3-arrayed, df3-clocked, df3-judged, df3-meaning}
 use Rattle.velocity.proofs.Layouts.{layout-accepted}
 use Rattle.velocity.proofs.Clocks.{clock-at-ways}

@@ -1,6 +1,6 @@
 -- The laws of DF7 records. Assumes nothing.
 use Prim.Native.Nat.{ℕ, _+_, _-_, _*_, _≤_, _<_}
-use mathlib.Core.Path.{_≡_, refl, sym, ap, subst}
+use mathlib.Core.Path.{_≡_, refl, ap, subst}
 use mathlib.Core.Bool.{false, _&&_, _||_}
 use mathlib.Core.List.{List, [], _∷_, _++_}
 use native.Mathlib.Omega.{arith}
@@ -9,7 +9,6 @@ use lib.ListN.{length, getD}
 use Rattle.std.proofs.shelf.Tests.{cond-both, and-parts, leb-true, ltb-false}
 use Rattle.format.specs.Meaning.{Meaning, Laws, Accepted, unclaimed, faulty, accepted, data-place}
 use Rattle.velocity.specs.Layout.{data-size, Shape, shape, shapes, layout, field-part, field-parts, field-at}
-use Rattle.velocity.specs.Clock.{clock-at}
 use Rattle.velocity.specs.Df7.{df7-fields, df7-offset, df7-parts, df7-claims, df7-clocked, df7-judged, df7-meaning}
 use Rattle.velocity.proofs.Layouts.{layout-accepted}
 use Rattle.velocity.proofs.Clocks.{clock-at-ways}

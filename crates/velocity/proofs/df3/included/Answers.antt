@@ -1,7 +1,6 @@
 use Prim.Native.Nat.{_*_, _/_, _%_, _^_}
 use mathlib.Core.Path.{_≡_, sym, ap, _∙_}
 use native.Mathlib.Omega.{arith}
-use lib.Dec.{eqb}
 use Rattle.std.proofs.shelf.Bits.{mul-le}
 use Rattle.std.proofs.shelf.Tests.{cond-true, eq-eqb}
 use Rattle.velocity.specs.Layout.{word}
