@@ -7,13 +7,13 @@ use std::io::Write;
 // The largest number of digits that are taken from a number.
 const DIGITS: u64 = 18;
 
-// The digit of a number that has so many digits behind it.
-fn digit(number: u64, behind: u64) -> u64 {
+// A number without its last digits.
+fn without_last(number: u64, count: u64) -> u64 {
     let mut rest = number;
-    for _ in 0..behind {
+    for _ in 0..count {
         rest /= 10;
     }
-    rest % 10
+    rest
 }
 
 fn print_zeros(out: &mut BufWriter<Stdout>, count: u64) -> Result<(), AnyError> {
@@ -26,19 +26,10 @@ fn print_zeros(out: &mut BufWriter<Stdout>, count: u64) -> Result<(), AnyError> 
 // The last digits of a number.
 fn print_last(out: &mut BufWriter<Stdout>, number: u64, count: u64) -> Result<(), AnyError> {
     for i in 0..count {
-        let next = digit(number, count - 1 - i);
+        let next = without_last(number, count - 1 - i) % 10;
         write!(out, "{next}")?;
     }
     Ok(())
-}
-
-// A number without its last digits.
-fn without_last(number: u64, count: u64) -> u64 {
-    let mut rest = number;
-    for _ in 0..count {
-        rest /= 10;
-    }
-    rest
 }
 
 // A number divided by ten so many times, with all its digits.
