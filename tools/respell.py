@@ -1,9 +1,9 @@
 #!/usr/bin/env python3
 """Respells the repository's own ghost names as the library does: types and facts in camel case, everything else in snake case.
 
-usage: python3 tools/respell.py        at the top of the repository, once, after the kit's port.py
+usage: python3 tools/respell.py        at the top of the repository, after the kit's port.py; a second run finds nothing
 
-A name is taken where specs/ or proofs/ declare it with a dash in it. In the name of a lemma a dash stays between two names of
+A name is taken where specs/ or proofs/ declare it, or a `use` line gives it, with a dash or in mixed case. In the name of a lemma a dash stays between two names of
 definitions, as in `commas-comma`. Goals of a proof keep their names. Prints what it renamed, and names that fall together.
 """
 import glob
@@ -12,6 +12,8 @@ import sys
 
 LIBRARY = {'length', 'take', 'drop', 'map', 'set', 'sum', 'append', 'replicate', 'cond', 'slice_index'}
 DECLARED = re.compile(r'^ *(?:(?:abbrev|unfoldable|pub|record|data) +)*([^\s:(){}\[\].,;]+)(?= |:)[^\n=→]*:(?: |$)', re.M)
+MIXED = re.compile(r'[a-z][a-z0-9]*[A-Z]\w*$')
+ALIAS = re.compile(r'^(?:ghost )?use .*', re.M)
 TYPED = re.compile(r'^ *(?:(?:abbrev|unfoldable|pub) +)*(\S+) : (?:need|goal|given)\.', re.M)
 CHARS = r"[\w'\-]"
 
@@ -37,12 +39,19 @@ def declared():
                 continue
             if spec:
                 definitions.add(name)
-            if '-' in name:
+            if '-' in name or MIXED.match(name):
                 names[name] = names.get(name, False) or spec
+    for path in files('crates/**/*.antt', 'crates/**/*.rt'):
+        for line in ALIAS.findall(read(path)):
+            for name in re.findall(r" as ([^\s,{};]+)", line):
+                if '-' in name or MIXED.match(name):
+                    names.setdefault(name, True)
     return {n: s for n, s in names.items() if n not in goals}, definitions
 
 
 def respelled(name, is_definition, definitions):
+    if MIXED.match(name):
+        return re.sub('[A-Z]', lambda m: '_' + m.group().lower(), name)
     if name[0].isupper():
         head, *rest = name.split('-')
         return head + ''.join(w[:1].upper() + w[1:] for w in rest)
@@ -60,6 +69,8 @@ def main():
     names, definitions = declared()
     new = {n: respelled(n, spec, definitions) for n, spec in names.items()}
     new = {a: b for a, b in new.items() if a != b}
+    if not new:
+        return
     texts = {p: read(p) for p in files('crates/**/*.antt', 'crates/**/*.rt', 'crates/**/must-fail/*.edit', 'docs/*.md', 'README.md')}
     words = set()
     for path, text in texts.items():

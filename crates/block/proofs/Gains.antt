@@ -1,6 +1,6 @@
 -- Entries put behind those of a list, one by one and block by block. Assumes nothing.
 use Rattle.std.proofs.Common.{◌≡◌, ℕ, ◌+◌, ◌<◌, ◌≤◌, List, ◌++◌, length, sym, ap, ◌∙◌, subst, add-one, arith, length-append}
-use Rattle.common.specs.declared.list.List.{List as Listed-in}
+use Rattle.common.specs.declared.list.List.{List as ListedIn}
 use Rattle.common.specs.Lists.{items, room}
 use Rattle.common.specs.Added.{Added}
 use Rattle.common.proofs.Additions.{added_more}
@@ -8,9 +8,9 @@ use Rattle.register.specs.declared.entry.Entry.{Entry}
 use Rattle.block.specs.Parts.{each}
 use Rattle.block.proofs.Parts.{each_grows}
 
-module _ (a b : Listed-in Entry) (f : ℕ → List Entry) (k : ℕ) (before : Added a (each f k) b) where
+module _ (a b : ListedIn Entry) (f : ℕ → List Entry) (k : ℕ) (before : Added a (each f k) b) where
   -- one step more
-  pub added_step : (c : Listed-in Entry) (xs : List Entry) → xs ≡ f k → Added b xs c → Added a (each f (k + 1)) c
+  pub added_step : (c : ListedIn Entry) (xs : List Entry) → xs ≡ f k → Added b xs c → Added a (each f (k + 1)) c
   added_step c xs is here =
       subst (λ ys. Added a ys c) (ap (λ s. each f k ++ s) is ∙ ap (each f) (sym (add-one k))) (added_more a b c (each f k) xs before here)
 

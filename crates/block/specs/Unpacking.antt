@@ -1,6 +1,6 @@
 -- Unpacking: the entries of a register's blocks, or what is wrong with them. Assumes nothing.
 use Rattle.std.specs.Prelude.{◌≡◌, ℕ, ◌-◌, ◌*◌, ◌/◌, ◌%◌, Bool, cond, ◌&&◌, List, [], length, Some, None, Ok, Err, Option, Result, ◌==◌, nat_le}
-use Rattle.common.specs.declared.list.List.{List as Listed-in}
+use Rattle.common.specs.declared.list.List.{List as ListedIn}
 use Rattle.common.specs.Lists.{items, room}
 use Rattle.common.specs.declared.refusal.Refusal.{Refusal}
 use Rattle.register.specs.declared.entry.Entry.{Entry}
@@ -52,7 +52,7 @@ Judged bytes (Ok n) = Right bytes n × (unpacked bytes ≡ Ok (entries_in bytes 
 Judged bytes (Err fault) = unpacked bytes ≡ Err fault
 
 -- how many entries more a list has room for
-abbrev pub free : Listed-in Entry → ℕ
+abbrev pub free : ListedIn Entry → ℕ
 free l = room l - length (items l)
 
 -- the answer to a table with room for this many entries more, and the entries that it gets

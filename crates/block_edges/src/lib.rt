@@ -1,3 +1,5 @@
 // The edges of packing and unpacking, tried.
+#![tactic(auto)]
+
 #[cfg(test)]
 mod tests;

@@ -1,4 +1,6 @@
 // What the programs share: their arguments and their standard input.
+#![tactic(auto)]
+
 ghost use Rattle.std.specs.Prelude.{◌≤◌, length, IfOk};
 
 use anyhow::anyhow;

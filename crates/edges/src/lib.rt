@@ -1,4 +1,6 @@
 // The edges of the calls, tried.
+#![tactic(auto)]
+
 #[cfg(test)]
 mod drafts;
 #[cfg(test)]

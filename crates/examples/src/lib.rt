@@ -1,4 +1,6 @@
 // Worked examples of the definitions, computed as one theorem.
+#![tactic(auto)]
+
 ghost use Rattle.std.specs.Prelude.{◌≡◌, true};
 ghost use Rattle.examples.specs.Table.{holds, table, OnePassed, TwoPassed, MinusTwo, Centre};
 

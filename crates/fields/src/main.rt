@@ -1,4 +1,6 @@
 // Prints the records of a stream on standard input, each with its guide and its parts, and the totals.
+#![tactic(auto)]
+
 use crate::printing::print_record;
 use anyhow::anyhow;
 use common::list::List;

@@ -2,14 +2,14 @@
 use Rattle.std.proofs.Common.{◌≡◌, ℕ, ◌+◌, ◌-◌, ◌<◌, ◌≤◌, true, cond, List, [], ◌∷◌, ◌++◌, length, drop, set, Ok, Err, sym, refl, ap, ◌∙◌, append_assoc, append-nil, arith, length-append, length-set, length-take}
 use Rattle.std.proofs.lemmas.List.{drop-set-lt, drop-drop, length_push}
 use Rattle.std.proofs.lemmas.Bool.{cond-true, cond-false, lt-ltb, le-leb, lt-leb}
-use Rattle.common.specs.declared.list.List.{List as Listed-in}
+use Rattle.common.specs.declared.list.List.{List as ListedIn}
 use Rattle.common.specs.Lists.{items, room, has_room}
 use Rattle.format.specs.declared.format.Part.{Part}
 use Rattle.format.specs.declared.format.PartsFault.TheVariants.{TableShort}
 use Rattle.format.specs.Meaning.{Meaning, Leaves, listing}
 use Rattle.format.specs.Added.{Added}
 
-module _ (a b : Listed-in Part) (x : Part) where
+module _ (a b : ListedIn Part) (x : Part) where
   -- a push where there is room
   pub added_one : length (items a) < room a
       → items b ≡ cond (has_room a) (items a ++ (x ∷ [])) (items a)
@@ -27,10 +27,10 @@ module _ (a b : Listed-in Part) (x : Part) where
         lends = lends;
       }
 
-pub added_none : (a : Listed-in Part) → Added a [] a
+pub added_none : (a : ListedIn Part) → Added a [] a
 added_none a = record { holds = sym (append-nil (items a)); same_room = refl; rest = refl; lends = refl }
 
-pub added_more : (a b c : Listed-in Part) (ps qs : List Part) → Added a ps b → Added b qs c → Added a (ps ++ qs) c
+pub added_more : (a b c : ListedIn Part) (ps qs : List Part) → Added a ps b → Added b qs c → Added a (ps ++ qs) c
 added_more a b c ps qs h k =
     let joined : items c ≡ (items a ++ ps) ++ qs = k.holds ∙ ap (λ l. l ++ qs) h.holds in
     let m : ℕ = length (items b) in
@@ -46,15 +46,15 @@ added_more a b c ps qs h k =
       lends = k.lends ∙ h.lends;
     }
 
-pub items_fit : (a : Listed-in Part) → length (items a) ≤ room a
+pub items_fit : (a : ListedIn Part) → length (items a) ≤ room a
 items_fit a = simp length-take (omega arith)
 
 -- there is room for another part while fewer were added than fit
-pub room_for_more : (a b : Listed-in Part) (ps : List Part) → Added a ps b → length (items a) + length ps < room a → length (items b) < room b
+pub room_for_more : (a b : ListedIn Part) (ps : List Part) → Added a ps b → length (items a) + length ps < room a → length (items b) < room b
 room_for_more a b ps h fits = omega (arith, ap length h.holds ∙ length-append (items a) ps, h.same_room)
 
 -- the parts of an accepted record, all of them added, and none where the table is too short
-module _ (m : Meaning) (a b : Listed-in Part) (good : m.judgement.number ≡ 0) where
+module _ (m : Meaning) (a b : ListedIn Part) (good : m.judgement.number ≡ 0) where
   pub leaves_added : length (items a) + length m.parts ≤ room a → Added a m.parts b → Leaves m a b (Ok tt)
   leaves_added fits h = record {
     says = sym (rw good (cond-true _ _ _ (le-leb _ _ fits)));

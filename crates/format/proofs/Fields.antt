@@ -1,7 +1,7 @@
 -- The fields of a sentence as they are found byte by byte. Assumes nothing.
 use Rattle.std.proofs.Common.{◌≡◌, ℕ, ◌+◌, ◌<◌, ◌≤◌, List, [], ◌∷◌, ◌++◌, length, get_or, drop, sym, refl, ap, ◌∙◌, subst, append_assoc, arith}
 use Rattle.std.proofs.lemmas.List.{length_push}
-use Rattle.common.specs.declared.list.List.{List as Listed-in}
+use Rattle.common.specs.declared.list.List.{List as ListedIn}
 use Rattle.common.specs.Lists.{items, room}
 use Rattle.format.specs.declared.format.Part.{Part}
 use Rattle.format.specs.Added.{Added}
@@ -11,7 +11,7 @@ use Rattle.format.proofs.Additions.{added_more}
 use Rattle.format.proofs.Commas.{commas-comma, commas-other, fields-comma, fields-other}
 
 -- where a walk over the text stands at byte i, with a field begun: some are added, and the text from i on has the others
-pub record Going (s : List ℕ) (before : Listed-in Part) (i : ℕ) (field : Part) (out : Listed-in Part) : Type 0 where
+pub record Going (s : List ℕ) (before : ListedIn Part) (i : ℕ) (field : Part) (out : ListedIn Part) : Type 0 where
   pub done : List Part
   pub added : Added before done out
   pub left : done ++ fields field.code field.place field.count (drop i s) ≡ fields 1 1 0 s
@@ -21,14 +21,14 @@ pub record Going (s : List ℕ) (before : Listed-in Part) (i : ℕ) (field : Par
   pub fits : length (items out) + commas (drop i s) + 1 ≤ room out
 
 -- the same at other names
-pub going_at : (s : List ℕ) (before : Listed-in Part) (i : ℕ) (field f : Part) (out o : Listed-in Part) → field ≡ f → out ≡ o → Going s before i f o → Going s before i field out
+pub going_at : (s : List ℕ) (before : ListedIn Part) (i : ℕ) (field f : Part) (out o : ListedIn Part) → field ≡ f → out ≡ o → Going s before i f o → Going s before i field out
 going_at s before i field f out o e h g = subst (λ x. Going s before i x out) (sym e) (subst (λ x. Going s before i f x) (sym h) g)
 
 -- a field with one byte more, of the width and the sign of another
 abbrev pub counting : Part → Part → Part
 counting f g = record { code = f.code; place = f.place; width = g.width; count = f.count + 1; signed = g.signed }
 
-module _ (s : List ℕ) (before : Listed-in Part) (i : ℕ) (field : Part) (out after : Listed-in Part) (g : Going s before i field out) where
+module _ (s : List ℕ) (before : ListedIn Part) (i : ℕ) (field : Part) (out after : ListedIn Part) (g : Going s before i field out) where
   -- a comma ends the field
   pub going_comma : i < length s → get_or s i 0 ≡ 44 → Added out (field ∷ []) after
       → Going s before (i + 1) (plain (field.code + 1) (field.place + field.count + 1) 0) after
@@ -55,7 +55,7 @@ module _ (s : List ℕ) (before : Listed-in Part) (i : ℕ) (field : Part) (out 
       let all : g.done ++ (field ∷ []) ≡ fields 1 1 0 s = ap (λ t. g.done ++ t) (ap (λ f. f ∷ []) g.simple ∙ sym e) ∙ g.left in
       subst (λ ps. Added before ps after) all (added_more before out after g.done (field ∷ []) g.added h)
 
-module _ (s : List ℕ) (before : Listed-in Part) (i : ℕ) (field : Part) (out : Listed-in Part) (g : Going s before i field out) where
+module _ (s : List ℕ) (before : ListedIn Part) (i : ℕ) (field : Part) (out : ListedIn Part) (g : Going s before i field out) where
   -- another byte is the field's
   pub going_other : i < length s → (get_or s i 0 ≡ 42 → ⊥) → (get_or s i 0 ≡ 44 → ⊥)
       → Going s before (i + 1) (plain field.code field.place (field.count + 1)) out

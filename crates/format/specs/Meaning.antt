@@ -1,6 +1,6 @@
 -- What a format means, and the laws that every format keeps. Assumes nothing.
 use Rattle.std.specs.Prelude.{◌≡◌, ℕ, ◌+◌, ◌*◌, ◌<◌, ◌≤◌, Bool, true, false, cond, List, [], ◌∷◌, ◌++◌, length, take, drop, is_ok, Ok, Err, Result, ◌==◌, ◌≢◌, nat_le}
-use Rattle.common.specs.declared.list.List.{List as Listed-in}
+use Rattle.common.specs.declared.list.List.{List as ListedIn}
 use Rattle.common.specs.declared.refusal.Refusal.{Refusal}
 use Rattle.common.specs.Lists.{items, room}
 use Rattle.format.specs.declared.format.Part.{Part}
@@ -83,7 +83,7 @@ listing m filled all =
     (Err (Judged m.judgement.number m.judgement.place))
 
 -- what a listing leaves: the parts behind what was there, or everything as it was
-pub record Leaves (m : Meaning) (before after : Listed-in Part) (r : Result (Unit {0}) PartsFault) : Type 0 where
+pub record Leaves (m : Meaning) (before after : ListedIn Part) (r : Result (Unit {0}) PartsFault) : Type 0 where
   pub says : r ≡ listing m (length (items before)) (room before)
   pub holds : items after ≡ items before ++ cond (is_ok r) m.parts []
   pub rest : drop (length (items after)) after.table.now ≡ drop (length (items after)) before.table.now

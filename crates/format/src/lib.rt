@@ -1,4 +1,6 @@
 // Formats of records: which format claims a record, its verdict, and its parts.
+#![tactic(auto)]
+
 pub mod format;
 pub mod items;
 pub mod pair;

@@ -1,4 +1,6 @@
 // Lists the frames of a stream on standard input, and how many bytes are in frames and passed over.
+#![tactic(auto)]
+
 use console::{read_all, starts};
 use framing::binary::Binary;
 use framing::pair::Pair;

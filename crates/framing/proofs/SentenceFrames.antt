@@ -10,7 +10,7 @@ use Rattle.std.proofs.lemmas.Bool.Decides.{nat_tests}
 use Rattle.framing.specs.declared.verdict.Verdict.{Verdict}
 use Rattle.framing.specs.declared.verdict.Verdict.TheVariants.{NoFrame, Short, Frame}
 use Rattle.framing.specs.Plan.{Plan, span, spanned, given, judged}
-use Rattle.framing.specs.Sentence.{payload, xorOf, hexValue, give, finished, closing, sentence, hexDigit, sentence_of, Framed, ExactlySentences}
+use Rattle.framing.specs.Sentence.{payload, xor_of, hex_value, give, finished, closing, sentence, hex_digit, sentence_of, Framed, ExactlySentences}
 use Rattle.framing.specs.Plans.{frame_len, frame_kind, await_frame, given_frame, span_frame}
 use Rattle.framing.specs.SentencePlan.{closing_is, sentence_is}
 
@@ -18,10 +18,10 @@ abbrev Payload : ℕ → Type 0
 Payload b = payload b ≡ true
 
 -- the digits, written and read
-digit_read : (v : ℕ) → v < 16 → hexValue (hexDigit v) ≡ Some v
+digit_read : (v : ℕ) → v < 16 → hex_value (hex_digit v) ≡ Some v
 digit_read v h = grind (arith, nat_tests)
 
-digit_written : (c v : ℕ) → hexValue c ≡ Some v → (c ≡ hexDigit v) × (v < 16)
+digit_written : (c v : ℕ) → hex_value c ≡ Some v → (c ≡ hex_digit v) × (v < 16)
 digit_written c v e = grind (arith, nat_tests)
 
 give_read : (a b : Option ℕ) (x : ℕ) → give a b x ≡ true → (h : ℕ) × (l : ℕ) × (a ≡ Some h) × (b ≡ Some l) × (16 * h + l ≡ x)
@@ -52,25 +52,25 @@ xor_small (y ∷ text) x h all =
 -- from a payload to the verdict
 module _ (text rest : List ℕ) (some : 1 ≤ length text) (fits : length text ≤ 506) (all : All Payload text) where
   abbrev tail : List ℕ
-  tail = 42 ∷ (hexDigit (xorOf text / 16) ∷ (hexDigit (xorOf text % 16) ∷ (13 ∷ (10 ∷ rest))))
+  tail = 42 ∷ (hex_digit (xor_of text / 16) ∷ (hex_digit (xor_of text % 16) ∷ (13 ∷ (10 ∷ rest))))
 
   abbrev line : List ℕ
   line = 36 ∷ (text ++ tail)
 
-  right : finished (xorOf text) (take 4 (drop 1 tail)) ≡ true
+  right : finished (xor_of text) (take 4 (drop 1 tail)) ≡ true
   right =
       let small = xor_small text 0 (omega arith) all in
-      let high : hexValue (hexDigit (xorOf text / 16)) ≡ Some (xorOf text / 16) = digit_read (xorOf text / 16) (omega arith) in
-      let low : hexValue (hexDigit (xorOf text % 16)) ≡ Some (xorOf text % 16) = digit_read (xorOf text % 16) (omega arith) in
-      let sum : eqb (16 * (xorOf text / 16) + xorOf text % 16) (xorOf text) ≡ true = eq-eqb _ _ (omega arith) in
+      let high : hex_value (hex_digit (xor_of text / 16)) ≡ Some (xor_of text / 16) = digit_read (xor_of text / 16) (omega arith) in
+      let low : hex_value (hex_digit (xor_of text % 16)) ≡ Some (xor_of text % 16) = digit_read (xor_of text % 16) (omega arith) in
+      let sum : eqb (16 * (xor_of text / 16) + xor_of text % 16) (xor_of text) ≡ true = eq-eqb _ _ (omega arith) in
       and_from _ (eqb 13 13 && eqb 10 10)
-      (ap (λ a. give a (hexValue (hexDigit (xorOf text % 16))) (xorOf text)) high ∙ ap (λ a. give (Some (xorOf text / 16)) a (xorOf text)) low ∙ sum) refl
+      (ap (λ a. give a (hex_value (hex_digit (xor_of text % 16))) (xor_of text)) high ∙ ap (λ a. give (Some (xor_of text / 16)) a (xor_of text)) low ∙ sum) refl
 
   closed : judged (closing (length text)) line ≡ Frame (length text + 6) 2
   closed =
       closing_is text tail (omega arith)
-      ∙ ap (λ b. cond b (cond (eqb 42 42) (cond (ltb (length tail) 5) Short (cond (finished (xorOf text) (take 4 (drop 1 tail))) (Frame (length text + 6) 2) NoFrame)) NoFrame) NoFrame) (le-leb 1 (length text) some)
-      ∙ ap (λ b. cond b Short (cond (finished (xorOf text) (take 4 (drop 1 tail))) (Frame (length text + 6) 2) NoFrame)) (le-ltb (length tail) 5 (omega arith))
+      ∙ ap (λ b. cond b (cond (eqb 42 42) (cond (ltb (length tail) 5) Short (cond (finished (xor_of text) (take 4 (drop 1 tail))) (Frame (length text + 6) 2) NoFrame)) NoFrame) NoFrame) (le-leb 1 (length text) some)
+      ∙ ap (λ b. cond b Short (cond (finished (xor_of text) (take 4 (drop 1 tail))) (Frame (length text + 6) 2) NoFrame)) (le-ltb (length tail) 5 (omega arith))
       ∙ ap (λ b. cond b (Frame (length text + 6) 2) NoFrame) right
 
   to_frame : judged sentence line ≡ Frame (length text + 6) 2
@@ -101,9 +101,9 @@ five (a ∷ (b ∷ (c ∷ (d ∷ [])))) l = absurd (omega arith)
 
 -- what closes a payload
 tail_is : (text t : List ℕ) (n k : ℕ) → 0 < length t → judged (closing (length text)) (36 ∷ (text ++ t)) ≡ Frame n k
-    → (1 ≤ length text) × (t ≡ 42 ∷ (hexDigit (xorOf text / 16) ∷ (hexDigit (xorOf text % 16) ∷ (13 ∷ (10 ∷ drop 5 t))))) × (Frame (length text + 6) 2 ≡ Frame n k)
+    → (1 ≤ length text) × (t ≡ 42 ∷ (hex_digit (xor_of text / 16) ∷ (hex_digit (xor_of text % 16) ∷ (13 ∷ (10 ∷ drop 5 t))))) × (Frame (length text + 6) 2 ≡ Frame n k)
 tail_is text t n k there e =
-    let x : ℕ = xorOf text in
+    let x : ℕ = xor_of text in
     let a = held (leb 1 (length text)) _ n k (sym (closing_is text t there) ∙ e) in
     let b = held (eqb (get_or t 0 0) 42) _ n k a.1 in
     let c = waited (ltb (length t) 5) _ n k b.1 in
@@ -111,24 +111,24 @@ tail_is text t n k there e =
     let enough : 5 ≤ length t = ltb-false (length t) 5 c.0 in
     let at : (i : ℕ) → i < 4 → get_or (take 4 (drop 1 t)) i 0 ≡ get_or t (1 + i) 0 = λ i l. get_or-take 4 (drop 1 t) i 0 l ∙ get_or-drop 1 t i 0 in
     let u = take 4 (drop 1 t) in
-    let parts = and_parts (give (hexValue (get_or u 0 0)) (hexValue (get_or u 1 0)) x) _ d.0 in
+    let parts = and_parts (give (hex_value (get_or u 0 0)) (hex_value (get_or u 1 0)) x) _ d.0 in
     let ends = and_parts (eqb (get_or u 2 0) 13) _ parts.1 in
-    let g = give_read (hexValue (get_or u 0 0)) (hexValue (get_or u 1 0)) x parts.0 in
+    let g = give_read (hex_value (get_or u 0 0)) (hex_value (get_or u 1 0)) x parts.0 in
     let high = digit_written (get_or u 0 0) g.0 g.2 in
     let low = digit_written (get_or u 1 0) g.1 g.3 in
-    let d1 : get_or t 1 0 ≡ hexDigit (x / 16) = sym (at 0 (omega arith)) ∙ high.0 ∙ ap hexDigit (omega (arith, g.4, low.1)) in
-    let d2 : get_or t 2 0 ≡ hexDigit (x % 16) = sym (at 1 (omega arith)) ∙ low.0 ∙ ap hexDigit (omega (arith, g.4, low.1)) in
+    let d1 : get_or t 1 0 ≡ hex_digit (x / 16) = sym (at 0 (omega arith)) ∙ high.0 ∙ ap hex_digit (omega (arith, g.4, low.1)) in
+    let d2 : get_or t 2 0 ≡ hex_digit (x % 16) = sym (at 1 (omega arith)) ∙ low.0 ∙ ap hex_digit (omega (arith, g.4, low.1)) in
     let cr : get_or t 3 0 ≡ 13 = sym (at 2 (omega arith)) ∙ eqb-true _ _ ends.0 in
     let lf : get_or t 4 0 ≡ 10 = sym (at 3 (omega arith)) ∙ eqb-true _ _ ends.1 in
     let star : get_or t 0 0 ≡ 42 = eqb-true _ _ b.0 in
     let r : List ℕ = drop 5 t in
-    let list : t ≡ 42 ∷ (hexDigit (x / 16) ∷ (hexDigit (x % 16) ∷ (13 ∷ (10 ∷ r)))) =
+    let list : t ≡ 42 ∷ (hex_digit (x / 16) ∷ (hex_digit (x % 16) ∷ (13 ∷ (10 ∷ r)))) =
     five t enough
     ∙ ap (λ y. y ∷ (get_or t 1 0 ∷ (get_or t 2 0 ∷ (get_or t 3 0 ∷ (get_or t 4 0 ∷ r))))) star
     ∙ ap (λ y. 42 ∷ (y ∷ (get_or t 2 0 ∷ (get_or t 3 0 ∷ (get_or t 4 0 ∷ r))))) d1
-    ∙ ap (λ y. 42 ∷ (hexDigit (x / 16) ∷ (y ∷ (get_or t 3 0 ∷ (get_or t 4 0 ∷ r))))) d2
-    ∙ ap (λ y. 42 ∷ (hexDigit (x / 16) ∷ (hexDigit (x % 16) ∷ (y ∷ (get_or t 4 0 ∷ r))))) cr
-    ∙ ap (λ y. 42 ∷ (hexDigit (x / 16) ∷ (hexDigit (x % 16) ∷ (13 ∷ (y ∷ r))))) lf in
+    ∙ ap (λ y. 42 ∷ (hex_digit (x / 16) ∷ (y ∷ (get_or t 3 0 ∷ (get_or t 4 0 ∷ r))))) d2
+    ∙ ap (λ y. 42 ∷ (hex_digit (x / 16) ∷ (hex_digit (x % 16) ∷ (y ∷ (get_or t 4 0 ∷ r))))) cr
+    ∙ ap (λ y. 42 ∷ (hex_digit (x / 16) ∷ (hex_digit (x % 16) ∷ (13 ∷ (y ∷ r))))) lf in
     (leb-true 1 (length text) a.0, list, d.1)
 
 from_frame : (s : List ℕ) (n k : ℕ) → judged sentence s ≡ Frame n k → (k ≡ 2) × Framed s n
@@ -155,7 +155,7 @@ from_frame s n k e =
         some = t.0;
         fits = omega (arith, f.1);
         printable = front-all (drop 1 s);
-        begins = all ∙ ap (λ x. 36 ∷ (text ++ x)) t.1 ∙ ap (λ x. 36 ∷ x) (sym (append_assoc text (42 ∷ (hexDigit (xorOf text / 16) ∷ (hexDigit (xorOf text % 16) ∷ (13 ∷ (10 ∷ []))))) (drop 5 tail)));
+        begins = all ∙ ap (λ x. 36 ∷ (text ++ x)) t.1 ∙ ap (λ x. 36 ∷ x) (sym (append_assoc text (42 ∷ (hex_digit (xor_of text / 16) ∷ (hex_digit (xor_of text % 16) ∷ (13 ∷ (10 ∷ []))))) (drop 5 tail)));
         long = sym (frame_len t.2);
       },
     )
@@ -164,6 +164,6 @@ pub exactly_sentences : (s : List ℕ) → ExactlySentences s (judged sentence s
 exactly_sentences s n k = (
   from_frame s n k,
   λ two f. subst (λ x. judged sentence x ≡ Frame n k)
-      (sym (f.begins ∙ ap (λ x. 36 ∷ x) (append_assoc f.text (42 ∷ (hexDigit (xorOf f.text / 16) ∷ (hexDigit (xorOf f.text % 16) ∷ (13 ∷ (10 ∷ []))))) f.rest)))
+      (sym (f.begins ∙ ap (λ x. 36 ∷ x) (append_assoc f.text (42 ∷ (hex_digit (xor_of f.text / 16) ∷ (hex_digit (xor_of f.text % 16) ∷ (13 ∷ (10 ∷ []))))) f.rest)))
       (to_frame f.text f.rest f.some f.fits f.printable ∙ ap (λ m. Frame m 2) (sym f.long) ∙ ap (λ j. Frame n j) (sym two)),
 )

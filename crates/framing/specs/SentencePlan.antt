@@ -10,12 +10,12 @@ use Rattle.framing.specs.declared.verdict.Verdict.{Verdict}
 use Rattle.framing.specs.declared.verdict.Verdict.TheVariants.{NoFrame, Short, Frame}
 use Rattle.framing.specs.Verdicts.{Laws}
 use Rattle.framing.specs.Plan.{Plan, none, await, span, frame, given, spanned, judged, Sound}
-use Rattle.framing.specs.Sentence.{sentence, closing, finished, payload, xorOf}
+use Rattle.framing.specs.Sentence.{sentence, closing, finished, payload, xor_of}
 use Rattle.framing.specs.Plans.{lawful, given_sound, judged_await, judged_given, judged_last}
 
 -- the plan from the `*` on, and from the checksum on
 abbrev ending : ℕ → Plan
-ending n = await (n + 6) λ s. given (finished (xorOf (take n (drop 1 s))) (drop (n + 2) s)) (frame (n + 6) 2)
+ending n = await (n + 6) λ s. given (finished (xor_of (take n (drop 1 s))) (drop (n + 2) s)) (frame (n + 6) 2)
 
 abbrev starred : ℕ → Plan
 starred n = await (n + 2) λ s. given (slice_index s (n + 1) == 42) (ending n)
@@ -25,7 +25,7 @@ closing_sound n few = given_sound (nat_le 1 n) (starred n) 512 _ λ _. (
   omega arith,
   λ s _. given_sound (slice_index s (n + 1) == 42) (ending n) 512 _ λ _. (
     omega arith,
-    λ t _. given_sound (finished (xorOf (take n (drop 1 t))) (drop (n + 2) t)) (frame (n + 6) 2) 512 _ λ _.
+    λ t _. given_sound (finished (xor_of (take n (drop 1 t))) (drop (n + 2) t)) (frame (n + 6) 2) 512 _ λ _.
         (omega arith, omega arith, omega arith),
   ),
 )
@@ -69,17 +69,17 @@ module _ (text tail : List ℕ) (there : 0 < length tail) where
       ap (λ i. drop (n + 2) (take i s)) six ∙ drop-take (n + 2) 4 s
       ∙ ap (λ i. take 4 (drop i s)) two ∙ ap (take 4) (sym (drop-drop 1 (n + 1) s) ∙ ap (drop 1) (drop_at (36 ∷ text) tail (n + 1) (omega arith)))
 
-  ending_is : judged (ending n) s ≡ cond (nat_lt (length tail) 5) Short (cond (finished (xorOf text) (take 4 (drop 1 tail))) (Frame (n + 6) 2) NoFrame)
+  ending_is : judged (ending n) s ≡ cond (nat_lt (length tail) 5) Short (cond (finished (xor_of text) (take 4 (drop 1 tail))) (Frame (n + 6) 2) NoFrame)
   ending_is =
       let waits : ltb (length s) (n + 6) ≡ ltb (length tail) 5 = grind (arith, nat_tests, long) in
-      ap (λ b. cond b Short (judged (given (finished (xorOf (take n (drop 1 (take (n + 6) s)))) (drop (n + 2) (take (n + 6) s))) (frame (n + 6) 2)) s)) waits
+      ap (λ b. cond b Short (judged (given (finished (xor_of (take n (drop 1 (take (n + 6) s)))) (drop (n + 2) (take (n + 6) s))) (frame (n + 6) 2)) s)) waits
       ∙ ap (λ v. cond (nat_lt (length tail) 5) Short v)
-      (judged_last (finished (xorOf (take n (drop 1 (take (n + 6) s)))) (drop (n + 2) (take (n + 6) s))) (n + 6) 2 s
-      ∙ ap (λ x. cond (finished (xorOf x) (drop (n + 2) (take (n + 6) s))) (Frame (n + 6) 2) NoFrame) text_at
-      ∙ ap (λ x. cond (finished (xorOf text) x) (Frame (n + 6) 2) NoFrame) end_at)
+      (judged_last (finished (xor_of (take n (drop 1 (take (n + 6) s)))) (drop (n + 2) (take (n + 6) s))) (n + 6) 2 s
+      ∙ ap (λ x. cond (finished (xor_of x) (drop (n + 2) (take (n + 6) s))) (Frame (n + 6) 2) NoFrame) text_at
+      ∙ ap (λ x. cond (finished (xor_of text) x) (Frame (n + 6) 2) NoFrame) end_at)
 
   -- the verdict on `$`, a payload and what comes behind it
-  pub closing_is : judged (closing n) s ≡ cond (nat_le 1 n) (cond (slice_index tail 0 == 42) (cond (nat_lt (length tail) 5) Short (cond (finished (xorOf text) (take 4 (drop 1 tail))) (Frame (n + 6) 2) NoFrame)) NoFrame) NoFrame
+  pub closing_is : judged (closing n) s ≡ cond (nat_le 1 n) (cond (slice_index tail 0 == 42) (cond (nat_lt (length tail) 5) Short (cond (finished (xor_of text) (take 4 (drop 1 tail))) (Frame (n + 6) 2) NoFrame)) NoFrame) NoFrame
   closing_is =
       judged_cond (nat_le 1 n) (starred n) s ∙ ap (λ v. cond (nat_le 1 n) v NoFrame)
       (judged_await (n + 2) (λ x. given (slice_index x (n + 1) == 42) (ending n)) s (omega (arith, long))

@@ -2,7 +2,7 @@
 ghost use Rattle.std.specs.Prelude.{◌≡◌, ◌+◌, ◌*◌, ◌≤◌, ◌++◌, length, if◌then◌else◌, Some, None, nat_eq};
 ghost use Rattle.framing.specs.Checksum.{checksum};
 ghost use Rattle.framing.specs.Plan.{judged};
-ghost use Rattle.framing.specs.Binary.{binary as binary-plan, headed, word, ExactlyFrames};
+ghost use Rattle.framing.specs.Binary.{binary as binary_plan, headed, word, ExactlyFrames};
 ghost use Rattle.framing.specs.BinaryPlan.{binary_lawful};
 
 use crate::checksum::checksum_of;
@@ -59,7 +59,7 @@ fn data_verdict(header: &[u8], body: &[u8]) -> Verdict
 
 // The verdict on some bytes, step by step.
 fn judge(bytes: &[u8]) -> Verdict
-    ensures { result ≡ judged binary-plan bytes.now }
+    ensures { result ≡ judged binary_plan bytes.now }
 {
     if bytes.is_empty() {
         return Verdict::Short;
@@ -87,14 +87,14 @@ fn judge(bytes: &[u8]) -> Verdict
 }
 
 impl Framing for Binary {
-    ghost verdict = { λ _. judged binary-plan };
+    ghost verdict = { λ _. judged binary_plan };
 
     ghost reach = { λ _. 8192 };
 
     ghost lawful = { λ f. binary_lawful };
 
     fn look(&self, bytes: &[u8]) -> Verdict
-        ensures verdict { result ≡ judged binary-plan bytes.now }
+        ensures verdict { result ≡ judged binary_plan bytes.now }
         ensures frames { ExactlyFrames bytes.now result }
     {
         judge(bytes)

@@ -2,7 +2,7 @@
 ghost use Rattle.std.specs.Prelude.{◌≡◌, ◌<◌, ◌≤◌, ◌∷◌, ◌++◌, length};
 ghost use Rattle.std.specs.List.{prefix_len};
 ghost use Rattle.framing.specs.Plan.{judged};
-ghost use Rattle.framing.specs.Sentence.{sentence as sentence-plan, payload, xorOf, hexValue, finished, closing, ExactlySentences};
+ghost use Rattle.framing.specs.Sentence.{sentence as sentence_plan, payload, xor_of, hex_value, finished, closing, ExactlySentences};
 ghost use Rattle.framing.specs.SentencePlan.{sentence_lawful};
 
 use crate::verdict::{Framing, Verdict};
@@ -38,7 +38,7 @@ fn payload_len(bytes: &[u8]) -> usize
 }
 
 fn xor_of(bytes: &[u8]) -> u8
-    ensures { result ≡ xorOf bytes.now }
+    ensures { result ≡ xor_of bytes.now }
 {
     let mut sum = 0;
     for b in bytes {
@@ -49,7 +49,7 @@ fn xor_of(bytes: &[u8]) -> u8
 
 // The value of an upper-case hex digit.
 fn hex_value(c: char) -> Option<u8>
-    ensures { result ≡ hexValue c }
+    ensures { result ≡ hex_value c }
 {
     match c {
         '0'..='9' => Some(c as u8 - b'0'),
@@ -94,7 +94,7 @@ fn close(text: &[u8], tail: &[u8]) -> Verdict
 
 // The verdict on some bytes, step by step.
 fn judge(bytes: &[u8]) -> Verdict
-    ensures { result ≡ judged sentence-plan bytes.now }
+    ensures { result ≡ judged sentence_plan bytes.now }
 {
     if bytes.is_empty() {
         return Verdict::Short;
@@ -114,14 +114,14 @@ fn judge(bytes: &[u8]) -> Verdict
 }
 
 impl Framing for Sentence {
-    ghost verdict = { λ _. judged sentence-plan };
+    ghost verdict = { λ _. judged sentence_plan };
 
     ghost reach = { λ _. 512 };
 
     ghost lawful = { λ f. sentence_lawful };
 
     fn look(&self, bytes: &[u8]) -> Verdict
-        ensures verdict { result ≡ judged sentence-plan bytes.now }
+        ensures verdict { result ≡ judged sentence_plan bytes.now }
         ensures sentences { ExactlySentences bytes.now result }
     {
         judge(bytes)

@@ -1,4 +1,6 @@
 // Makes the tag frame that Nortek's guide prints, and shows its bytes, its verdict, and that it is the same when it is written again from its parts.
+#![tactic(auto)]
+
 use anyhow::anyhow;
 use common::list::List;
 use format::format::{Format, Part};

@@ -1,4 +1,6 @@
 // Which guide describes a record, by its kind and series.
+#![tactic(auto)]
+
 ghost use Rattle.std.specs.Prelude.{◌≡◌};
 ghost use Rattle.guides.specs.Guides.{format_of, title_of, edition_of};
 

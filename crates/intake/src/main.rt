@@ -1,4 +1,6 @@
 // Registers the records of a stream on standard input, and prints the register and the totals.
+#![tactic(auto)]
+
 use common::list::List;
 use console::starts;
 use std::io::{BufWriter, Write};

@@ -1,4 +1,6 @@
 // Registers the records of a stream on standard input, and writes the register's blocks to standard output.
+#![tactic(auto)]
+
 use block::layout::{BLOCK, MOST_BLOCKS};
 use block::packing::pack;
 use common::list::List;

@@ -5,7 +5,7 @@ use Rattle.std.proofs.lemmas.List.Sums.{sum_by_push}
 use Rattle.framing.specs.declared.verdict.Verdict.{Verdict}
 use Rattle.reading.specs.declared.listing.Line.{Line}
 use Rattle.framing.specs.Verdicts.{Laws}
-use Rattle.reading.specs.Reading.{Found, found, Reading, Comes, seriesOf}
+use Rattle.reading.specs.Reading.{Found, found, Reading, Comes, series_of}
 use Rattle.reading.specs.Listed.{line_of, framed}
 use Rattle.reading.proofs.Readings.{closed_end}
 

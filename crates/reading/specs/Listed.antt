@@ -3,11 +3,11 @@ use Rattle.std.specs.Prelude.{◌≡◌, ℕ, ◌+◌, true, List, ◌∷◌, �
 use Rattle.framing.specs.declared.verdict.Verdict.{Verdict}
 use Rattle.reading.specs.declared.listing.Line.{Line}
 use Rattle.reading.specs.declared.listing.Listing.{Listing}
-use Rattle.reading.specs.Reading.{Found, Reading, seriesOf}
+use Rattle.reading.specs.Reading.{Found, Reading, series_of}
 
 -- what is listed of a record
 abbrev pub line_of : Found → Line
-line_of f = record { place = f.place; len = length f.bytes; kind = f.kind; series = seriesOf f.kind f.bytes }
+line_of f = record { place = f.place; len = length f.bytes; kind = f.kind; series = series_of f.kind f.bytes }
 
 -- how many bytes the records have together
 abbrev pub framed : List Found → ℕ
@@ -23,11 +23,11 @@ pub record Listed (verdict : List ℕ → Verdict) (s : List ℕ) (l : Listing) 
   pub passed : l.in_frames + l.passed ≡ length s
 
 -- a frame's line of text: place, length, kind and series, in decimal, with single blanks
-abbrev pub frameText : Line → List ℕ
-frameText f = decimal f.place ++ (32 ∷ (decimal f.len ++ (32 ∷ (decimal f.kind ++ (32 ∷ decimal f.series)))))
+abbrev pub frame_text : Line → List ℕ
+frame_text f = decimal f.place ++ (32 ∷ (decimal f.len ++ (32 ∷ (decimal f.kind ++ (32 ∷ decimal f.series)))))
 
 -- the line of totals: bytes, frames, bytes in frames, bytes passed over
-abbrev pub totalsText : Listing → List ℕ
-totalsText l =
+abbrev pub totals_text : Listing → List ℕ
+totals_text l =
     codes "bytes " ++ (decimal l.bytes ++ (codes " frames " ++ (decimal (vec_len l.frames)
     ++ (codes " framed " ++ (decimal l.in_frames ++ (codes " passed " ++ decimal l.passed))))))

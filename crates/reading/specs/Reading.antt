@@ -62,5 +62,5 @@ NextOf verdict closed s from (Record place len kind) = Comes verdict closed s fr
 NextOf verdict closed s from (End place) = Reading verdict closed s from [] place
 
 -- the series of a record: the third byte of a kind 1 record that has one, else 0
-abbrev pub seriesOf : ℕ → List ℕ → ℕ
-seriesOf kind bytes = cond (kind == 1 && nat_le 3 (length bytes)) (slice_index bytes 2) 0
+abbrev pub series_of : ℕ → List ℕ → ℕ
+series_of kind bytes = cond (kind == 1 && nat_le 3 (length bytes)) (slice_index bytes 2) 0

@@ -1,7 +1,7 @@
 // The frames of a stream that is held whole.
 ghost use Rattle.std.specs.Prelude.{◌≡◌, ◌+◌, ◌≤◌, length, IfOk, string_bytes};
-ghost use Rattle.reading.specs.Reading.{found, seriesOf};
-ghost use Rattle.reading.specs.Listed.{Listed, line_of, frameText, totalsText};
+ghost use Rattle.reading.specs.Reading.{found, series_of};
+ghost use Rattle.reading.specs.Listed.{Listed, line_of, frame_text, totals_text};
 
 use crate::steps::{Next, next_record};
 use framing::verdict::Framing;
@@ -27,7 +27,7 @@ pub struct Listing {
 
 // The series of a record.
 pub fn series_of(kind: u8, bytes: &[u8]) -> u8
-    ensures { result ≡ seriesOf kind bytes.now }
+    ensures { result ≡ series_of kind bytes.now }
 {
     if kind == 1 && bytes.len() >= 3 {
         bytes[2]
@@ -84,7 +84,7 @@ pub fn list_frames<F: Framing>(
 
 // A frame as a line of text.
 pub fn frame_text(heap: Global, frame: Line) -> Result<String, AllocError>
-    ensures { IfOk result (λ t. string_bytes t ≡ frameText frame) }
+    ensures { IfOk result (λ t. string_bytes t ≡ frame_text frame) }
 {
     let Line {
         place,
@@ -97,7 +97,7 @@ pub fn frame_text(heap: Global, frame: Line) -> Result<String, AllocError>
 
 // The totals of a listing as a line of text.
 pub fn totals_text(heap: Global, listing: &Listing) -> Result<String, AllocError>
-    ensures { IfOk result (λ t. string_bytes t ≡ totalsText listing.now) }
+    ensures { IfOk result (λ t. string_bytes t ≡ totals_text listing.now) }
 {
     let bytes = listing.bytes;
     let frames = listing.frames.len();

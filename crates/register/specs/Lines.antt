@@ -6,14 +6,14 @@ use Rattle.register.specs.declared.entry.Totals.{Totals}
 use Rattle.register.specs.declared.lines.LineShort.{LineShort}
 
 -- an entry's fields, in decimal, with single blanks, and a line feed
-abbrev pub entryText : Entry → List ℕ
-entryText e =
+abbrev pub entry_text : Entry → List ℕ
+entry_text e =
     decimal e.place ++ (32 ∷ (decimal e.len ++ (32 ∷ (decimal e.kind ++ (32 ∷ (decimal e.series
     ++ (32 ∷ (decimal e.verdict ++ (32 ∷ (decimal e.fault ++ (10 ∷ [])))))))))))
 
 -- the totals: accepted, the number of records, passed over, waiting
-abbrev pub totalsText : Totals → List ℕ
-totalsText t =
+abbrev pub totals_text : Totals → List ℕ
+totals_text t =
     codes "accepted " ++ (decimal t.accepted ++ (codes " records " ++ (decimal t.records
     ++ (codes " passed " ++ (decimal t.passed ++ (codes " waiting " ++ (decimal t.waiting ++ (10 ∷ []))))))))
 

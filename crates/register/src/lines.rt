@@ -1,7 +1,7 @@
 // Lines of text, written to a caller's space.
 ghost use Rattle.std.specs.Prelude.{◌≡◌, ◌+◌, ◌≤◌, [], ◌∷◌, ◌++◌, length, decimal};
 ghost use Rattle.register.specs.Line.{text};
-ghost use Rattle.register.specs.Lines.{entryText, totalsText, Written, told};
+ghost use Rattle.register.specs.Lines.{entry_text, totals_text, Written, told};
 
 use crate::entry::{Entry, Totals};
 use common::refusal::Refusal;
@@ -114,8 +114,8 @@ impl Line {
 
     // Copies the line of some totals, once it is whole.
     fn write_totals(&self, totals: Totals, space: &mut [u8]) -> Result<usize, LineShort>
-        requires { (text self.now ≡ totalsText totals) × (self.now.start ≤ 160) }
-        ensures { Written (totalsText totals) space.old space.new result }
+        requires { (text self.now ≡ totals_text totals) × (self.now.start ≤ 160) }
+        ensures { Written (totals_text totals) space.old space.new result }
     {
         self.write(space)
     }
@@ -123,7 +123,7 @@ impl Line {
 
 // An entry's line.
 pub fn entry_line(entry: Entry, space: &mut [u8]) -> Result<usize, LineShort>
-    ensures { Written (entryText entry) space.old space.new result }
+    ensures { Written (entry_text entry) space.old space.new result }
 {
     let mut line = Line::new();
     line.column(entry.fault as u64, b'\n');
@@ -137,7 +137,7 @@ pub fn entry_line(entry: Entry, space: &mut [u8]) -> Result<usize, LineShort>
 
 // The line of an intake's totals.
 pub fn totals_line(totals: Totals, space: &mut [u8]) -> Result<usize, LineShort>
-    ensures { Written (totalsText totals) space.old space.new result }
+    ensures { Written (totals_text totals) space.old space.new result }
 {
     let mut line = Line::new();
     line.byte(b'\n');

@@ -6,7 +6,7 @@ use Rattle.std.proofs.lemmas.Slice.{between_is}
 use Rattle.std.proofs.lemmas.List.{take_at, drop-append-le, drop-take, drop-drop}
 use Rattle.std.proofs.lemmas.Bool.{cases_eq}
 use Rattle.framing.specs.declared.verdict.Verdict.{Verdict}
-use Rattle.framing.specs.Verdicts.{Laws as Framing-laws}
+use Rattle.framing.specs.Verdicts.{Laws as FramingLaws}
 use Rattle.reading.specs.declared.steps.Next.{Next}
 use Rattle.reading.specs.declared.steps.Next.TheVariants.{Record, End}
 use Rattle.reading.specs.Reading.{NextOf}
@@ -52,7 +52,7 @@ fault-fits {m} laws k s h = at (m k s).claims refl
         ]
 
 -- what comes next in the reading of the waiting bytes lies among them
-pub next-within : {v : List ℕ → Verdict} {reach : ℕ} (c : Bool) → Framing-laws v reach → (bs : List ℕ) (a b : ℕ) → a ≤ b
+pub next-within : {v : List ℕ → Verdict} {reach : ℕ} (c : Bool) → FramingLaws v reach → (bs : List ℕ) (a b : ℕ) → a ≤ b
     → (n : Next) → NextOf v c (take (b - a) (drop a bs)) 0 n → NextWithin a b reach n
 next-within c laws bs a b l (Record place len kind) f =
     (omega (arith, f.within, length-take (b - a) (drop a bs)), f.some, (laws.within _ len kind f.frame).2)

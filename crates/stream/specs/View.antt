@@ -3,9 +3,9 @@ use Rattle.std.specs.Prelude.{◌≡◌, ℕ, ◌+◌, ◌-◌, ◌<◌, ◌≤�
 use Rattle.register.specs.declared.entry.Entry.{Entry}
 use Rattle.register.specs.declared.entry.Totals.{Totals}
 use Rattle.framing.specs.declared.verdict.Verdict.{Verdict}
-use Rattle.framing.specs.Verdicts.{Laws as Framing-laws}
-use Rattle.reading.specs.Reading.{Found, found, Reading, Comes, seriesOf}
-use Rattle.format.specs.Meaning.{Meaning, Laws as Format-laws}
+use Rattle.framing.specs.Verdicts.{Laws as FramingLaws}
+use Rattle.reading.specs.Reading.{Found, found, Reading, Comes, series_of}
+use Rattle.format.specs.Meaning.{Meaning, Laws as FormatLaws}
 use Rattle.stream.specs.declared.answers.Fault.{Fault}
 use Rattle.stream.specs.declared.answers.Fault.TheVariants.{SpaceShort, RegisterFull}
 use Rattle.stream.specs.declared.answers.Taken.{Taken}
@@ -43,8 +43,8 @@ pub record Terms : Type 0 where
   pub room : ℕ
 
 pub record Lawful (t : Terms) : Type 0 where
-  pub framing : Framing-laws t.verdict t.reach
-  pub formats : Format-laws t.meaning
+  pub framing : FramingLaws t.verdict t.reach
+  pub formats : FormatLaws t.meaning
 
 -- the terms of a framing and formats, and a register over a table of this length
 abbrev pub terms : (List ℕ → Verdict) → ℕ → (ℕ → List ℕ → Meaning) → ℕ → Terms
@@ -56,7 +56,7 @@ entry_by meaning f = record {
   place = f.place;
   len = length f.bytes;
   kind = f.kind;
-  series = seriesOf f.kind f.bytes;
+  series = series_of f.kind f.bytes;
   verdict = (meaning f.kind f.bytes).judgement.number;
   fault = (meaning f.kind f.bytes).judgement.place;
 }

@@ -6,7 +6,7 @@ use Rattle.framing.specs.Plan.{judged}
 use Rattle.framing.specs.Binary.{binary}
 use Rattle.framing.specs.Sentence.{sentence}
 use Rattle.format.specs.Meaning.{Meaning}
-use Rattle.format.specs.Meaning.{or_else as orMeaning}
+use Rattle.format.specs.Meaning.{or_else as or_meaning}
 use Rattle.format.specs.Text.{text_meaning}
 use Rattle.format.specs.Sentence.{sentence_meaning}
 use Rattle.velocity.specs.Df3.{df3_meaning}
@@ -17,7 +17,7 @@ unfoldable pub survey_verdict : List ℕ → Verdict
 survey_verdict s = or_else (judged binary s) (judged sentence s)
 
 unfoldable pub survey_meaning : ℕ → List ℕ → Meaning
-survey_meaning kind s = orMeaning (orMeaning (df3_meaning kind s) (df7_meaning kind s)) (orMeaning (text_meaning kind s) (sentence_meaning kind s))
+survey_meaning kind s = or_meaning (or_meaning (df3_meaning kind s) (df7_meaning kind s)) (or_meaning (text_meaning kind s) (sentence_meaning kind s))
 
 -- with a register over a table of this length
 abbrev pub survey_terms : ℕ → Terms

@@ -1,4 +1,6 @@
 // Writes the string record of a tag to standard output.
+#![tactic(auto)]
+
 use anyhow::anyhow;
 use calendar::stamps::stamp_of;
 use std::env;

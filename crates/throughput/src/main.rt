@@ -1,4 +1,6 @@
 // Registers a stream of any length on standard input, in registers one after the other, and prints the totals: for measuring.
+#![tactic(auto)]
+
 use anyhow::anyhow;
 use common::list::List;
 use console::fill;

@@ -1,4 +1,6 @@
 // Reads a register's blocks on standard input, and prints its entries.
+#![tactic(auto)]
+
 use anyhow::anyhow;
 use block::layout::{BLOCK, MOST_BLOCKS};
 use block::unpacking::unpack;

@@ -2,7 +2,7 @@
 use Rattle.std.specs.Prelude.{◌≡◌, ℕ, ◌<◌, ◌≤◌, true, false, List, length, Err, ◌≢◌, refl}
 use Rattle.std.proofs.Common.{sym, ap, ◌∙◌, append-nil, arith}
 use Rattle.std.proofs.lemmas.Bool.{true≢false, false≢true, cond-false, ne_eqb}
-use Rattle.common.specs.declared.list.List.{List as Listed-in}
+use Rattle.common.specs.declared.list.List.{List as ListedIn}
 use Rattle.common.specs.Lists.{items}
 use Rattle.format.specs.declared.format.Part.{Part}
 use Rattle.format.specs.declared.format.Judgement.{Judgement}
@@ -29,7 +29,7 @@ lawful_by meaning ways = record {
 }
 
 -- a refused record leaves everything as it was
-pub leaves_judged : (m : Meaning) (a : Listed-in Part) (j : Judgement) → j ≡ m.judgement → (j.number ≢ 0) → Leaves m a a (Err (Judged j.number j.place))
+pub leaves_judged : (m : Meaning) (a : ListedIn Part) (j : Judgement) → j ≡ m.judgement → (j.number ≢ 0) → Leaves m a a (Err (Judged j.number j.place))
 leaves_judged m a j e bad = record {
   says = ap (λ x. Err (Judged x.number x.place)) e ∙ sym (cond-false _ _ _ (ne_eqb m.judgement.number 0 (λ z. bad (ap (λ x. x.number) e ∙ z))));
   holds = sym (append-nil (items a));

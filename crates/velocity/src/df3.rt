@@ -2,7 +2,7 @@
 ghost use Rattle.std.specs.Prelude.{◌≡◌, ◌+◌, ◌*◌, ◌^◌, ◌<◌, ◌≤◌, length};
 ghost use Rattle.format.specs.Meaning.{Leaves, accepted};
 ghost use Rattle.velocity.specs.Layout.{data_size};
-ghost use Rattle.velocity.specs.Df3.{df3_claims, df3_judged, df3_arrayed, df3_meaning, df3_parts, df3_offset, df3_fields, df3_spare, velocity_array, amplitude_array, correlation_array, df3_tail, cells, beams, included as included-items, amplitude_position, correlation_position, arrays_end, first_above, high_correlation};
+ghost use Rattle.velocity.specs.Df3.{df3_claims, df3_judged, df3_arrayed, df3_meaning, df3_parts, df3_offset, df3_fields, df3_spare, velocity_array, amplitude_array, correlation_array, df3_tail, cells, beams, included as included_items, amplitude_position, correlation_position, arrays_end, first_above, high_correlation};
 ghost use Rattle.velocity.specs.Df3Laws.{df3_lawful};
 
 use crate::clock::clock_at;
@@ -313,7 +313,7 @@ pub(crate) fn beams_of(bytes: &[u8]) -> usize
 // How many items an array has that a bit of the configuration includes.
 pub(crate) fn included(bit: u32, bytes: &[u8]) -> usize
     requires { (bit < 16) × (86 ≤ length bytes.now) }
-    ensures value { result ≡ included-items bit bytes.now }
+    ensures value { result ≡ included_items bit bytes.now }
     ensures few { result ≤ 15345 }
 {
     if (word_at(bytes, CONFIGURATION) >> bit) % 2 == 1 {

@@ -1,7 +1,7 @@
 // What is taken from an accepted DF3 record: cell centres, velocities and correlations.
 ghost use Rattle.std.specs.Prelude.{◌≡◌, ℕ, ◌+◌, ◌*◌, ◌<◌, ◌≤◌, true, length, if◌then◌else◌, Some, None, Ok, Err, MatchResult};
 ghost use Rattle.velocity.specs.Layout.{data_size};
-ghost use Rattle.velocity.specs.Df3.{included as included-items, arrays_end, high_correlation};
+ghost use Rattle.velocity.specs.Df3.{included as included_items, arrays_end, high_correlation};
 ghost use Rattle.velocity.specs.Profile.{told, is_accepted, centre_of, exist, item_number, of_array, ItemWithin, velocity_of, correlation_of, nominal_of};
 
 use crate::df3::{beams_of, cells_of, correlation_position, included, judge_df3};
@@ -100,7 +100,7 @@ fn array_item(
     cell: usize,
 ) -> Result<usize, ProfileFault>
     requires { bit < 16 }
-    ensures value { result ≡ of_array kind bytes.now (included-items bit bytes.now) beam cell (λ i. i) }
+    ensures value { result ≡ of_array kind bytes.now (included_items bit bytes.now) beam cell (λ i. i) }
     ensures within { ItemWithin bytes.now bit result }
 {
     if !is_profile(kind, bytes) || included(bit, bytes) == 0 {

@@ -7,7 +7,7 @@ use Rattle.format.specs.Meaning.{Meaning, Laws, joined_parts}
 use Rattle.framing.specs.declared.verdict.Verdict.TheVariants.{Frame}
 use Rattle.framing.specs.Binary.{binary, header_of}
 use Rattle.framing.specs.Plan.{judged}
-use Rattle.reading.specs.Reading.{seriesOf}
+use Rattle.reading.specs.Reading.{series_of}
 use Rattle.writing.specs.declared.again.AgainFault.{AgainFault}
 use Rattle.writing.specs.declared.again.AgainFault.TheVariants.{Outside, Full}
 use Rattle.writing.specs.Drafts.{header_size, fits}
@@ -19,7 +19,7 @@ all_inside s (p ∷ ps) = inside s p && all_inside s ps
 
 -- the series of a binary record
 abbrev pub series : List ℕ → ℕ
-series s = seriesOf 1 s
+series s = series_of 1 s
 
 -- the frame that some parts of a record make: the header of its series and of the parts joined, and then these
 abbrev pub frame_of : List ℕ → List Part → List ℕ

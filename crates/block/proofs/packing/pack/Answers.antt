@@ -12,18 +12,18 @@ unfolding packed
 returns c =
     let es = c.args.entries.now in
     let before = c.args.space.now in
-    let n = c.div-ceil-count.result in
+    let n = c.div_ceil-count.result in
     let is : n ≡ needed es = omega arith in
     let few : needed es ≤ most_blocks = omega arith in
     let room : block_size * needed es ≤ length before = omega (arith, c.if-space-count.false) in
     let good : fits es (length before) ≡ true = and_from _ _ (le-leb (needed es) most_blocks few) (le-leb (block_size * needed es) (length before) room) in
     let long : block_size * n ≡ length (packed es) = ap (λ m. block_size * m) is ∙ sym (packed-long es) in
-    let written : c.write-blocks.new.space ≡ packed es ++ drop (length (packed es)) before =
-    c.write-blocks.ensures.writes ∙ ap (λ m. blocks m es ++ drop (block_size * n) before) is ∙ ap (λ m. packed es ++ drop m before) long in
+    let written : c.write_blocks.new.space ≡ packed es ++ drop (length (packed es)) before =
+    c.write_blocks.ensures.writes ∙ ap (λ m. blocks m es ++ drop (block_size * n) before) is ∙ ap (λ m. packed es ++ drop m before) long in
     record {
       says = ap Ok long ∙ sym (cond-true _ _ _ good);
       leaves = written ∙ sym (cond-true _ _ _ good);
       within = omega (arith, c.if-space-count.false);
       back = ap (λ t. unpacked (take (block_size * n) t)) written ∙ ap unpacked (take_at (packed es) (drop (length (packed es)) before) (block_size * n) (sym long))
-          ∙ unpacked-back es (record { fits = c.write-blocks.ensures.fit; few = few });
+          ∙ unpacked-back es (record { fits = c.write_blocks.ensures.fit; few = few });
     }

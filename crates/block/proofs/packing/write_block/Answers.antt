@@ -12,12 +12,12 @@ returns c =
     let n = c.args.number in
     let few = c.requires.0 in
     let zeros : c.fill.new.self ≡ replicate block_size 0 = c.fill.ensures.after (λ y h. h) ∙ ap (λ m. replicate m 0) c.requires.1 in
-    let space = before-sum n es few c.write-entries.new.area c.copy-from-slice.new.self c.copy-from-slice-2.new.self
-    (c.write-entries.ensures.writes ∙ ap (λ t. flat_map entry_bytes es ++ drop (entry_size * length es) t) zeros)
-    (c.copy-from-slice.ensures.after ∙ c.to-le-bytes.ensures)
-    (c.copy-from-slice-2.ensures.after ∙ c.to-le-bytes-2.ensures ∙ le_four n) in
+    let space = before-sum n es few c.write_entries.new.area c.copy_from_slice.new.self c.copy_from_slice-2.new.self
+    (c.write_entries.ensures.writes ∙ ap (λ t. flat_map entry_bytes es ++ drop (entry_size * length es) t) zeros)
+    (c.copy_from_slice.ensures.after ∙ c.to_le_bytes.ensures)
+    (c.copy_from_slice-2.ensures.after ∙ c.to_le_bytes-2.ensures ∙ le_four n) in
     record {
-      writes = with_sum n es few _ c.copy-from-slice-3.new.self space
-          (c.copy-from-slice-3.ensures.after ∙ c.sum-bytes-sum.ensures);
-      fit = c.write-entries.ensures.fit;
+      writes = with_sum n es few _ c.copy_from_slice-3.new.self space
+          (c.copy_from_slice-3.ensures.after ∙ c.sum_bytes-sum.ensures);
+      fit = c.write_entries.ensures.fit;
     }

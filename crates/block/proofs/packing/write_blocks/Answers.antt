@@ -13,9 +13,9 @@ loop-i-preserved c =
     let es = c.args.entries.now in
     let cut = least-part per_block (per_block * i) c.min-end.result es c.min-end.ensures in
     let fits : block_size * i + block_size ≤ length c.args.space.now = omega (arith, c.requires) in (
-      block_more es i c.args.space.now c.loop-i.space c.write-block.new.space _ fits (omega arith) c.loop-i.invariant.0
-          (c.write-block.ensures.writes ∙ ap (block i) cut),
-      fit_more es i c.loop-i.invariant.1 (subst (All Fits) cut c.write-block.ensures.fit),
+      block_more es i c.args.space.now c.loop-i.space c.write_block.new.space _ fits (omega arith) c.loop-i.invariant.0
+          (c.write_block.ensures.writes ∙ ap (block i) cut),
+      fit_more es i c.loop-i.invariant.1 (subst (All Fits) cut c.write_block.ensures.fit),
     )
 
 pub returns : goal.returns

@@ -11,8 +11,8 @@ loop-k-preserved c =
     let k = c.loop-k.k in
     let es = c.args.entries.now in
     let less = c.loop-k-test.true in (
-      entry_more es k c.args.area.now c.loop-k.area c.copy-from-slice.new.self _ _ less c.requires (omega arith) c.loop-k.invariant.0
-          (c.copy-from-slice.ensures.after ∙ c.entry_bytes.ensures.bytes),
+      entry_more es k c.args.area.now c.loop-k.area c.copy_from_slice.new.self _ _ less c.requires (omega arith) c.loop-k.invariant.0
+          (c.copy_from_slice.ensures.after ∙ c.entry_bytes.ensures.bytes),
       All-more Fits es k _ less c.loop-k.invariant.1 c.entry_bytes.ensures.fits,
     )
 

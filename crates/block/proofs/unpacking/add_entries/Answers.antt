@@ -17,16 +17,16 @@ loop-k-preserved c =
     let a = c.args.out.now in
     let k = c.loop-k.k in
     let all : length (each f (count_of b)) ≡ count_of b = length-each 1 f (count_of b) (λ _ _. refl) ∙ omega arith in
-    let less : k < count_of b = omega (arith, c.u16-at-count.ensures) in
+    let less : k < count_of b = omega (arith, c.u16_at-count.ensures) in
     let free : length (items c.loop-k.out) + 1 ≤ room c.loop-k.out =
     step_fits a c.loop-k.out f k c.loop-k.invariant (count_of b) less (omega (arith, c.requires.1.1)) in
     let said = c.push.ensures in
-    added_step a c.loop-k.out f k c.loop-k.invariant c.push.new.self _ (ap (λ e. e ∷ []) c.entry-at.ensures)
-    (added_one c.loop-k.out c.push.new.self c.entry-at.result (omega arith) said.items said.table said.lends)
+    added_step a c.loop-k.out f k c.loop-k.invariant c.push.new.self _ (ap (λ e. e ∷ []) c.entry_at.ensures)
+    (added_one c.loop-k.out c.push.new.self c.entry_at.result (omega arith) said.items said.table said.lends)
 
 pub returns : goal.returns
 returns c =
     let b = c.args.block.now in
     let f : ℕ → List Entry = λ j. entry_of (part entry_size j b) ∷ [] in
-    let end : c.loop-k.k ≡ count_of b = omega (arith, c.u16-at-count.ensures) in
+    let end : c.loop-k.k ≡ count_of b = omega (arith, c.u16_at-count.ensures) in
     subst (λ n. Added c.args.out.now (each f n) c.loop-k.out) end c.loop-k.invariant

@@ -4,15 +4,15 @@ use Rattle.block.specs.Blocks.{block_size, form_right}
 use Rattle.block.proofs.Questions.{none_wrong, one_wrong}
 use Rattle.block.proofs.unpacking.first_wrong_form.Goals as goal
 
-pub returns-then-not-has-right-form : goal.returns-then-not-has-right-form
-returns-then-not-has-right-form c =
+pub returns-then-not-has_right_form : goal.returns-then-not-has_right_form
+returns-then-not-has_right_form c =
     let s = c.args.bytes.now in
     sym (one_wrong (λ k. form_right c.args.blocks k (part block_size k s)) c.args.blocks c.loop-i.i c.loop-i.invariant
-    (ap (form_right c.args.blocks c.loop-i.i) (sym c.block-at.ensures.value) ∙ sym c.if-not-has-right-form.ensures) c.loop-i-test.true)
+    (ap (form_right c.args.blocks c.loop-i.i) (sym c.block_at.ensures.value) ∙ sym c.if-not-has_right_form.ensures) c.loop-i-test.true)
 
 pub loop-i-preserved : goal.loop-i-preserved
 loop-i-preserved c =
-    below_more _ _ c.loop-i.invariant (ap (form_right c.args.blocks c.loop-i.i) (sym c.block-at.ensures.value) ∙ sym c.if-not-has-right-form.ensures)
+    below_more _ _ c.loop-i.invariant (ap (form_right c.args.blocks c.loop-i.i) (sym c.block_at.ensures.value) ∙ sym c.if-not-has_right_form.ensures)
 
 pub returns : goal.returns
 returns c =

@@ -6,14 +6,14 @@ use Rattle.block.specs.Entries.{entry_size}
 use Rattle.block.proofs.Blocks.{form_free}
 use Rattle.block.proofs.unpacking.has_right_form.Goals as goal
 
-pub returns-then-is-zero : goal.returns-then-is-zero
-returns-then-is-zero c =
+pub returns-then-is_zero : goal.returns-then-is_zero
+returns-then-is_zero c =
     let b = c.args.block.now in
     let i = c.args.i in
     let n = c.args.blocks in
-    let count = c.u16-at-count.ensures in
+    let count = c.u16_at-count.ensures in
     let right : count_right (eqb (i + 1) n) (count_of b) ≡ true =
-    ap (count_right (eqb (i + 1) n)) (sym count) ∙ sym c.if-not-is-right-count.ensures in
-    c.is-zero-then-is-zero.ensures ∙ ap all_zero (between_is b (entry_size * c.u16-at-count.result) entries_end)
+    ap (count_right (eqb (i + 1) n)) (sym count) ∙ sym c.if-not-is_right_count.ensures in
+    c.is_zero-then-is_zero.ensures ∙ ap all_zero (between_is b (entry_size * c.u16_at-count.result) entries_end)
     ∙ ap (λ m. all_zero (drop (entry_size * m) (take entries_end b))) count
-    ∙ sym (form_free n i b right (sym c.u32-at.ensures ∙ c.if-u32-at-i.false) (sym c.if-is-zero.ensures))
+    ∙ sym (form_free n i b right (sym c.u32_at.ensures ∙ c.if-u32_at-i.false) (sym c.if-is_zero.ensures))

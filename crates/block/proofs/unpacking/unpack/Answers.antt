@@ -7,36 +7,36 @@ use Rattle.block.specs.Unpacking.{entries_in, free, answer, given}
 use Rattle.block.proofs.Registers.{packed-only, unpacked_again}
 use Rattle.block.proofs.unpacking.unpack.Goals as goal
 
-pub returns-in-err-blocks : goal.returns-in-err-blocks
-returns-in-err-blocks c =
+pub returns-in_err-blocks : goal.returns-in_err-blocks
+returns-in_err-blocks c =
     let s = c.args.bytes.now in
     let a = c.args.out.now in
     let p = err_from_is_err_and c.from-residual.result c.from-residual.ensures.1 in
-    let is = c.in-err-blocks.ensures in
+    let is = c.in_err-blocks.ensures in
     record {
       says = p.1 ∙ ap Err p.2 ∙ sym (ap (λ u. answer u (free a)) is);
       items = sym (ap (λ u. items a ++ given u (free a)) is ∙ append-nil (items a));
       table = added_table a a [] (added_none a);
       room = refl;
       lends = refl;
-      only = packed-only s (λ i. (c.type-inv.bytes i).fits);
+      only = packed-only s (λ i. (c.type_inv.bytes i).fits);
       back = unpacked_again s;
     }
 
-pub returns-then-not-has-room : goal.returns-then-not-has-room
-returns-then-not-has-room c =
+pub returns-then-not-has_room : goal.returns-then-not-has_room
+returns-then-not-has_room c =
     let s = c.args.bytes.now in
     let a = c.args.out.now in
-    let es = entries_in s c.in-ok-blocks.blocks in
-    let is = c.in-ok-blocks.ensures.1 in
-    let short : leb (length es) (free a) ≡ false = ap (λ n. leb n (free a)) (sym c.entry-count.ensures) ∙ sym c.if-not-has-room.ensures in
+    let es = entries_in s c.in_ok-blocks.blocks in
+    let is = c.in_ok-blocks.ensures.1 in
+    let short : leb (length es) (free a) ≡ false = ap (λ n. leb n (free a)) (sym c.entry_count.ensures) ∙ sym c.if-not-has_room.ensures in
     record {
       says = sym (ap (λ u. answer u (free a)) is ∙ cond-false _ _ _ short);
       items = sym (ap (λ u. items a ++ given u (free a)) is ∙ ap (λ t. items a ++ t) (cond-false _ _ _ short) ∙ append-nil (items a));
       table = added_table a a [] (added_none a);
       room = refl;
       lends = refl;
-      only = packed-only s (λ i. (c.type-inv.bytes i).fits);
+      only = packed-only s (λ i. (c.type_inv.bytes i).fits);
       back = unpacked_again s;
     }
 
@@ -44,17 +44,17 @@ pub returns : goal.returns
 returns c =
     let s = c.args.bytes.now in
     let a = c.args.out.now in
-    let b = c.add-blocks.new.out in
-    let es = entries_in s c.in-ok-blocks.blocks in
-    let is = c.in-ok-blocks.ensures.1 in
-    let fits : leb (length es) (free a) ≡ true = ap (λ n. leb n (free a)) (sym c.entry-count.ensures) ∙ sym c.if-not-has-room.ensures in
-    let added = c.add-blocks.ensures in
+    let b = c.add_blocks.new.out in
+    let es = entries_in s c.in_ok-blocks.blocks in
+    let is = c.in_ok-blocks.ensures.1 in
+    let fits : leb (length es) (free a) ≡ true = ap (λ n. leb n (free a)) (sym c.entry_count.ensures) ∙ sym c.if-not-has_room.ensures in
+    let added = c.add_blocks.ensures in
     record {
       says = sym (ap (λ u. answer u (free a)) is ∙ cond-true _ _ _ fits);
       items = added.holds ∙ sym (ap (λ u. items a ++ given u (free a)) is ∙ ap (λ t. items a ++ t) (cond-true _ _ _ fits));
       table = added_table a b es added;
       room = added.same_room;
       lends = added.lends;
-      only = packed-only s (λ i. (c.type-inv.bytes i).fits);
+      only = packed-only s (λ i. (c.type_inv.bytes i).fits);
       back = unpacked_again s;
     }

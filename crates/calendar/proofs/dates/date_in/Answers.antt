@@ -12,11 +12,11 @@ loop-month-preserved c = omega (arith, one_month_more c.args.year c.loop-month.m
 last : (c : goal.After-loop-month) → (c.loop-month.rest < 31) × (months_days c.args.year 11 + c.loop-month.rest ≡ c.args.day)
 last c = in_december c.args.year c.loop-month.month c.loop-month.rest c.args.day (omega arith) c.loop-month.invariant c.requires
 
-pub overflow-cast-result-2 : goal.overflow-cast-result-2
-overflow-cast-result-2 c = let few = (last c).0 in search rules
+pub overflow_cast-result-2 : goal.overflow_cast-result-2
+overflow_cast-result-2 c = let few = (last c).0 in search rules
 
-pub overflow-add-result-2 : goal.overflow-add-result-2
-overflow-add-result-2 c = let few = (last c).0 in search rules
+pub overflow_add-result-2 : goal.overflow_add-result-2
+overflow_add-result-2 c = let few = (last c).0 in search rules
 
 pub returns : goal.returns
 returns c =

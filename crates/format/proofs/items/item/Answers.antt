@@ -9,11 +9,11 @@ pub returns : goal.returns
 returns c =
     let s = c.args.bytes.now in
     let p = c.args.part in
-    let fits : SFits w64 c.read-number.result = search rules in
+    let fits : SFits w64 c.read_number.result = search rules in
     let start = p.place + p.width * c.args.i in
     let same : take (start + p.width - start) (drop start s) ≡ take p.width (drop start s) = ap (λ n. take n (drop start s)) (omega arith) in
-    let number : to_z w64 (of_z w64 c.read-number.result) ≡ value p.signed (take p.width (drop start s)) =
-    to_z-of_z w64 c.read-number.result fits ∙ c.read-number.ensures ∙ ap (value p.signed) same in
+    let number : to_z w64 (of_z w64 c.read_number.result) ≡ value p.signed (take p.width (drop start s)) =
+    to_z-of_z w64 c.read_number.result fits ∙ c.read_number.ensures ∙ ap (value p.signed) same in
     ap Ok number
-    ∙ sym (cond-true (inside s p) (cond (readable p c.args.i) (Ok (value p.signed (take p.width (drop start s)))) (Err NoItem)) (Err Outside) (sym c.if-not-lies-inside.ensures)
-    ∙ cond-true (readable p c.args.i) (Ok (value p.signed (take p.width (drop start s)))) (Err NoItem) (sym c.if-not-has-number.ensures))
+    ∙ sym (cond-true (inside s p) (cond (readable p c.args.i) (Ok (value p.signed (take p.width (drop start s)))) (Err NoItem)) (Err Outside) (sym c.if-not-lies_inside.ensures)
+    ∙ cond-true (readable p c.args.i) (Ok (value p.signed (take p.width (drop start s)))) (Err NoItem) (sym c.if-not-has_number.ensures))

@@ -2,7 +2,7 @@ use Rattle.std.proofs.Common.{◌+◌, ap, ◌∙◌, arith}
 use Rattle.format.proofs.Commas.{fields_end, fields-star}
 use Rattle.format.proofs.Fields.{going_at, counting, going_comma, going_other, going_end}
 use Rattle.format.proofs.sentence.add_fields.Goals as goal
-use Rattle.format.proofs.sentence.add_fields.Goals.{in-44, in-default, else-loop-b-test, then-loop-b-test+in-42}
+use Rattle.format.proofs.sentence.add_fields.Goals.{in-44, in_default, else-loop-b-test, then-loop-b-test+in-42}
 
 pub loop-b-preserved : goal.loop-b-preserved
 loop-b-preserved c =
@@ -12,9 +12,9 @@ loop-b-preserved c =
     let f = c.loop-b.field in
     let out = c.loop-b.out in
     elim c.match-b.branch [
-      | in-44 w ↦ going_at s a (i + 1) _ _ _ _ (w.field-is ∙ w.plain-part-field-in-44.ensures) w.out-is
+      | in-44 w ↦ going_at s a (i + 1) _ _ _ _ (w.field-is ∙ w.plain_part-field-in-44.ensures) w.out-is
           (going_comma s a i f out w.add.new.out c.loop-b.invariant (omega arith) w.in-44.is w.add.ensures)
-      | in-default w ↦ going_at s a (i + 1) _ _ _ _ (w.field-is ∙ ap (counting f) c.loop-b.invariant.simple) w.out-is
+      | in_default w ↦ going_at s a (i + 1) _ _ _ _ (w.field-is ∙ ap (counting f) c.loop-b.invariant.simple) w.out-is
           (going_other s a i f out c.loop-b.invariant (omega arith) (λ star. omega arith) (λ comma. omega arith))
     ]
 

@@ -2,7 +2,7 @@ use Rattle.std.proofs.Common.{◌+◌, drop, sym, ap, ◌∙◌, arith}
 use Rattle.format.specs.Sentence.{comma_at}
 use Rattle.format.proofs.Commas.{comma_at_end, comma_at-star, comma_at-last, comma_at-comma, comma_at-other}
 use Rattle.format.proofs.sentence.last_comma.Goals as goal
-use Rattle.format.proofs.sentence.last_comma.Goals.{in-44+else-others-eq0, in-default}
+use Rattle.format.proofs.sentence.last_comma.Goals.{in-44+else-others-eq0, in_default}
 
 pub returns-in-42 : goal.returns-in-42
 returns-in-42 c = sym (comma_at-star c.args.text.now c.loop-i.i (omega arith) _ _ c.in-42.is) ∙ c.loop-i.invariant
@@ -20,7 +20,7 @@ loop-i-preserved c =
     elim c.match-b.branch [
       | in-44+else-others-eq0 w ↦ ap (λ m. comma_at m (i + 1 + 1) (drop (i + 1) s)) w.others-is
           ∙ sym (comma_at-comma s i (omega arith) c.loop-i.others (i + 1) (omega arith) w.in-44.is) ∙ c.loop-i.invariant
-      | in-default w ↦ ap (λ m. comma_at m (i + 1 + 1) (drop (i + 1) s)) w.others-is
+      | in_default w ↦ ap (λ m. comma_at m (i + 1 + 1) (drop (i + 1) s)) w.others-is
           ∙ sym (comma_at-other s i (omega arith) (λ star. omega arith) (λ comma. omega arith) c.loop-i.others (i + 1)) ∙ c.loop-i.invariant
     ]
 

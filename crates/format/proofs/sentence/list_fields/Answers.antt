@@ -11,7 +11,7 @@ returns-then-room-len c =
     let a = c.args.out.now in
     record {
       leaves = leaves-short (accepted (fields 1 1 0 s)) a a refl
-          (omega (arith, field_count 1 1 0 s, items_fit a, c.room.ensures, c.len.ensures, c.comma-count.ensures));
+          (omega (arith, field_count 1 1 0 s, items_fit a, c.room.ensures, c.len.ensures, c.comma_count.ensures));
       lends = refl;
     }
 
@@ -20,7 +20,7 @@ returns c =
     let s = c.args.text.now in
     let a = c.args.out.now in
     record {
-      leaves = leaves_added (accepted (fields 1 1 0 s)) a c.add-fields.new.out refl
-          (omega (arith, field_count 1 1 0 s, items_fit a, c.room.ensures, c.len.ensures, c.comma-count.ensures)) c.add-fields.ensures;
-      lends = c.add-fields.ensures.lends;
+      leaves = leaves_added (accepted (fields 1 1 0 s)) a c.add_fields.new.out refl
+          (omega (arith, field_count 1 1 0 s, items_fit a, c.room.ensures, c.len.ensures, c.comma_count.ensures)) c.add_fields.ensures;
+      lends = c.add_fields.ensures.lends;
     }

@@ -13,6 +13,6 @@ returns c =
     let there : 10 + word h 4 ≤ length s = omega (arith, right.1) in
     let part : take (10 + size - 10) (drop 10 s) ≡ take (word h 4) (drop 10 s) = ap (λ n. take n (drop 10 s)) (omega (arith, right.1)) in
     let long : length (take (10 + size - 10) (drop 10 s)) ≡ word h 4 = simp (length-take, length-drop) (omega (arith, right.1)) in
-    let frame = binary_data s c.if-bytes.false c.if-bytes-ne-HEADER-BYTE.false right.0 there in
-    let said = c.data-verdict.ensures in
+    let frame = binary_data s c.if-bytes.false c.if-bytes-ne-HEADER_BYTE.false right.0 there in
+    let said = c.data_verdict.ensures in
     cc

@@ -15,11 +15,11 @@ loop-start-preserved g c =
     let kind = c.in-Record.kind in
     let v = g.F.Framing.verdict c.args.framing.now in
     let f : Comes v _ s c.loop-start.place start len kind = c.in-Record.ensures in
-    let items = pushed (c.line-at.result ∷ []) refl c.in-ok-push.was c.push.ensures.items in
+    let items = pushed (c.line_at.result ∷ []) refl c.in_ok-push.was c.push.ensures.items in
     let u = c.loop-start.invariant.0 in (
       one_more u f,
-      subst (λ l. Lines (one_more u f) l (c.loop-start.in-frames + len) (c.loop-start.passed + (start - c.loop-start.place))) (sym items)
-          (line_more u c.loop-start.invariant.1 f c.line-at.result c.line-at.ensures),
+      subst (λ l. Lines (one_more u f) l (c.loop-start.in_frames + len) (c.loop-start.passed + (start - c.loop-start.place))) (sym items)
+          (line_more u c.loop-start.invariant.1 f c.line_at.result c.line_at.ensures),
     )
 
 pub returns : goal.returns
@@ -29,7 +29,7 @@ returns g c =
     record {
       records = u.records;
       all = refl;
-      reading = listed-all (g.met.F.Framing.lawful c.args.framing.now) u c.in-default.ensures;
+      reading = listed-all (g.met.F.Framing.lawful c.args.framing.now) u c.in_default.ensures;
       frames = l.listed;
       inside = l.inside-is;
       passed = omega (arith, l.adds, u.within);

@@ -4,7 +4,7 @@ use Rattle.reading.proofs.listing.list_frames.Given as goal
 
 abbrev pub invariant-loop-start : goal.invariant-loop-start
 invariant-loop-start g l =
-    (u : Upto (g.F.Framing.verdict l.framing) true l.bytes l.place) × Lines u (vec_items l.frames) l.in-frames l.passed
+    (u : Upto (g.F.Framing.verdict l.framing) true l.bytes l.place) × Lines u (vec_items l.frames) l.in_frames l.passed
 
 abbrev pub decreases-loop-start : goal.decreases-loop-start
 decreases-loop-start g l = length l.bytes - l.place

@@ -4,4 +4,4 @@ use Rattle.survey.proofs.feeding.register_all.Goals as goal
 
 pub returns : goal.returns
 unfolding survey_verdict survey_meaning
-returns c = record { law = c.feed-all.ensures.law; room = c.feed-all.ensures.room; lends = c.feed-all.ensures.lends }
+returns c = record { law = c.feed_all.ensures.law; room = c.feed_all.ensures.room; lends = c.feed_all.ensures.lends }

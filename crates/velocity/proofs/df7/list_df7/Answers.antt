@@ -6,9 +6,9 @@ use Rattle.velocity.specs.Df7.{df7_fields, df7_others}
 use Rattle.velocity.proofs.df7.list_df7.Goals as goal
 
 -- the table is short, and its positions are small, which antt computes
-pub list-layout-requires : goal.list-layout-requires
-list-layout-requires c =
-    let is = sym c.fixed-fields-fields.ensures in
+pub list_layout-requires : goal.list_layout-requires
+list_layout-requires c =
+    let is = sym c.fixed_fields-fields.ensures in
     (subst (λ fs. length fs ≤ 64) is (omega arith), (omega arith, subst (λ fs. near fs ≡ true) is refl))
 
 -- equal parts make equal lists
@@ -18,11 +18,11 @@ equal p q = cc
 pub returns : goal.returns
 returns c =
     let s = c.args.bytes.now in
-    let others : ◌≡◌ {A = List Part} (c.field_part.result ∷ (c.field-part-2.result ∷ [])) (df7_others s) =
-    equal (c.field_part.ensures ∙ ap (field_part 22) c.spare.ensures) (c.field-part-2.ensures ∙ ap (field_part 23) c.tail.ensures) in
-    let all = ap (λ fs. field_parts 1 fs ++ (c.field_part.result ∷ (c.field-part-2.result ∷ []))) c.fixed-fields-fields.ensures
+    let others : ◌≡◌ {A = List Part} (c.field_part.result ∷ (c.field_part-2.result ∷ [])) (df7_others s) =
+    equal (c.field_part.ensures ∙ ap (field_part 22) c.spare.ensures) (c.field_part-2.ensures ∙ ap (field_part 23) c.tail.ensures) in
+    let all = ap (λ fs. field_parts 1 fs ++ (c.field_part.result ∷ (c.field_part-2.result ∷ []))) c.fixed_fields-fields.ensures
     ∙ ap (λ ps. field_parts 1 df7_fields ++ ps) others in
     record {
-      leaves = subst (λ ps. Leaves (accepted ps) c.args.out.now c.list-layout.new.out c.list-layout.result) all c.list-layout.ensures.leaves;
-      lends = c.list-layout.ensures.lends;
+      leaves = subst (λ ps. Leaves (accepted ps) c.args.out.now c.list_layout.new.out c.list_layout.result) all c.list_layout.ensures.leaves;
+      lends = c.list_layout.ensures.lends;
     }

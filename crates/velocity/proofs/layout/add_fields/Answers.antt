@@ -6,8 +6,8 @@ use Rattle.velocity.specs.Layout.{field_part, field_parts}
 use Rattle.velocity.specs.Layouts.{no_field, near_at, field_parts_push, field_parts_count}
 use Rattle.velocity.proofs.layout.add_fields.Goals as goal
 
-pub field-part-requires : goal.field-part-requires
-field-part-requires c = omega (arith, near_at c.args.fields.now c.requires.1.0 c.loop-field.field-index (omega arith))
+pub field_part-requires : goal.field_part-requires
+field_part-requires c = omega (arith, near_at c.args.fields.now c.requires.1.0 c.loop-field.field-index (omega arith))
 
 pub add-requires : goal.add-requires
 add-requires c =

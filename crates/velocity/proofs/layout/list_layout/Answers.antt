@@ -17,18 +17,18 @@ returns-then-room-len c =
       lends = refl;
     }
 
-pub add-fields-requires : goal.add-fields-requires
-add-fields-requires c = (c.requires.0, (c.requires.1.1, omega (arith, items_fit c.args.out.now, c.room.ensures, c.len.ensures)))
+pub add_fields-requires : goal.add_fields-requires
+add_fields-requires c = (c.requires.0, (c.requires.1.1, omega (arith, items_fit c.args.out.now, c.room.ensures, c.len.ensures)))
 
-pub add-parts-requires : goal.add-parts-requires
-add-parts-requires c =
+pub add_parts-requires : goal.add_parts-requires
+add_parts-requires c =
     let fs = c.args.fields.now in
     let a = c.args.out.now in
     omega (
       arith,
-      ap length c.add-fields.ensures.holds ∙ length-append (items a) (field_parts 1 fs),
+      ap length c.add_fields.ensures.holds ∙ length-append (items a) (field_parts 1 fs),
       field_parts_count 1 fs,
-      c.add-fields.ensures.same_room,
+      c.add_fields.ensures.same_room,
       items_fit a,
       c.room.ensures,
       c.len.ensures,
@@ -39,9 +39,9 @@ returns c =
     let fs = c.args.fields.now in
     let qs = c.args.others.now in
     let a = c.args.out.now in
-    let all = added_more a c.add-fields.new.out c.add-parts.new.out (field_parts 1 fs) qs c.add-fields.ensures c.add-parts.ensures in
+    let all = added_more a c.add_fields.new.out c.add_parts.new.out (field_parts 1 fs) qs c.add_fields.ensures c.add_parts.ensures in
     record {
-      leaves = leaves_added (accepted (field_parts 1 fs ++ qs)) a c.add-parts.new.out refl
+      leaves = leaves_added (accepted (field_parts 1 fs ++ qs)) a c.add_parts.new.out refl
           (omega (arith, length-append (field_parts 1 fs) qs, field_parts_count 1 fs, items_fit a, c.room.ensures, c.len.ensures)) all;
       lends = all.lends;
     }

@@ -6,11 +6,11 @@ use Rattle.velocity.proofs.profile.is_profile.Goals as goal
 
 pub returns : goal.returns
 returns c =
-    let number = ap (λ j. j.number) c.judge-df3.ensures in
+    let number = ap (λ j. j.number) c.judge_df3.ensures in
     record {
       value = ap (λ n. eqb n 0) number;
       good = λ e.
-          let zero = sym number ∙ eqb-true c.judge-df3.result.number 0 e in
+          let zero = sym number ∙ eqb-true c.judge_df3.result.number 0 e in
           let g = (df3_accepted c.args.kind c.args.bytes.now zero).1 in
           (g.long, g.most, none_high c.args.kind c.args.bytes.now zero);
     }

@@ -19,10 +19,10 @@ pub returns-in-Ok : goal.returns-in-Ok
 returns-in-Ok c =
     let s = c.args.bytes.now in
     let p : ℕ = df3_offset s + 10 + 2 * c.in-Ok.i in
-    let m : SFits w16 c.from-le-bytes.result = search rules in
-    let e : SFits w8 c.from-le-bytes-in-Ok.result = search rules in
+    let m : SFits w16 c.from_le_bytes.result = search rules in
+    let e : SFits w8 c.from_le_bytes-in-Ok.result = search rules in
     let ordered : get_or s p 0 + get_or s (p + 1) 0 * 256 ≡ word s p = omega arith in
-    let mantissa = to_z-of_z w16 c.from-le-bytes.result m ∙ c.from-le-bytes.ensures ∙ ap (to_z w16) ordered in
-    let scaling = to_z-of_z w8 c.from-le-bytes-in-Ok.result e ∙ c.from-le-bytes-in-Ok.ensures in
+    let mantissa = to_z-of_z w16 c.from_le_bytes.result m ∙ c.from_le_bytes.ensures ∙ ap (to_z w16) ordered in
+    let scaling = to_z-of_z w8 c.from_le_bytes-in-Ok.result e ∙ c.from_le_bytes-in-Ok.ensures in
     ap Ok (same mantissa scaling)
     ∙ sym (of_found c.args.kind s (velocities s) c.args.beam c.args.cell (velocity_at s) c.in-Ok.i c.in-Ok.ensures.value)

@@ -8,7 +8,7 @@ use Rattle.writing.specs.Again.{all_inside}
 use Rattle.writing.proofs.Filling.{Going, going_start, going_more, going_all}
 use Rattle.writing.proofs.Rewriting.{no_part}
 use Rattle.writing.proofs.again.add_parts.Goals as goal
-use Rattle.writing.proofs.again.add_parts.Goals.{in-Ok, in-default}
+use Rattle.writing.proofs.again.add_parts.Goals.{in-Ok, in_default}
 
 pub loop-part-init : goal.loop-part-init
 loop-part-init c = (c.requires.0, going_start (joined_parts c.args.record.now c.args.parts.now) c.args.draft.now c.requires.1)
@@ -33,7 +33,7 @@ loop-part-preserved c =
           let adds = subst (λ x. Adds d x w.add.new.self r) w.in-Ok.ensures.1 w.add.ensures.does in
           let more = going_more all (bytes_of s p) (joined_parts s left) start d w.add.new.self r g adds w.add.ensures.lends in
           (both.1, subst (Going all start (joined_parts s left)) (sym w.draft-is) more)
-      | in-default w ↦ absurd (both_ways (inside s p) w.in-default.ensures.0 both.0)
+      | in_default w ↦ absurd (both_ways (inside s p) w.in_default.ensures.0 both.0)
     ]
 
 pub returns : goal.returns

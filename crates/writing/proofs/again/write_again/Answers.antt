@@ -5,5 +5,5 @@ pub returns : goal.returns
 returns c =
     record {
       does = c.rewrite.ensures;
-      same = same_bytes c.args.record.now c.args.parts.now c.args.space.now c.rewrite.new.space c.rewrite.result (λ i. (c.type-inv.record i).fits) c.rewrite.ensures;
+      same = same_bytes c.args.record.now c.args.parts.now c.args.space.now c.rewrite.new.space c.rewrite.result (λ i. (c.type_inv.record i).fits) c.rewrite.ensures;
     }

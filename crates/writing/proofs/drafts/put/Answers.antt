@@ -3,4 +3,4 @@ use Rattle.writing.proofs.Puts.{part_put}
 use Rattle.writing.proofs.drafts.put.Goals as goal
 
 pub returns : goal.returns
-returns c = part_put c.args.space.now c.args.bytes.now _ c.args.place _ c.copy-from-slice.ensures.after (omega arith)
+returns c = part_put c.args.space.now c.args.bytes.now _ c.args.place _ c.copy_from_slice.ensures.after (omega arith)

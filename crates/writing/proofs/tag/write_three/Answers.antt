@@ -12,15 +12,15 @@ room_is space x y z m n e f =
     let sum : n ≡ min (length (x ++ (y ++ z))) (2 ^ 64 - 1) = omega arith in
     ap (fits space) sum ∙ fits_capped space (length (x ++ (y ++ z)))
 
-pub returns-then-not-has-room : goal.returns-then-not-has-room
-returns-then-not-has-room c =
+pub returns-then-not-has_room : goal.returns-then-not-has_room
+returns-then-not-has_room c =
     let x = c.args.first.now in
     let y = c.args.second.now in
     let z = c.args.third.now in
     let before = c.args.space.now in
     writes_not c.args.series (x ++ (y ++ z)) before
-    (sym (room_is (length before) x y z c.saturating-add.result c.saturating-add-size.result c.saturating-add.ensures c.saturating-add-size.ensures)
-    ∙ sym c.if-not-has-room.ensures)
+    (sym (room_is (length before) x y z c.saturating_add.result c.saturating_add-size.result c.saturating_add.ensures c.saturating_add-size.ensures)
+    ∙ sym c.if-not-has_room.ensures)
 
 pub returns : goal.returns
 returns c =
@@ -31,8 +31,8 @@ returns c =
     let before = c.args.space.now in
     let all = x ++ (y ++ z) in
     let room : fits (length before) (length all) ≡ true =
-    sym (room_is (length before) x y z c.saturating-add.result c.saturating-add-size.result c.saturating-add.ensures c.saturating-add-size.ensures)
-    ∙ sym c.if-not-has-room.ensures in
+    sym (room_is (length before) x y z c.saturating_add.result c.saturating_add-size.result c.saturating_add.ensures c.saturating_add-size.ensures)
+    ∙ sym c.if-not-has_room.ensures in
     let start = c.start-draft.result in
     let sum : length (content start) + length all ≡ length all = ap (λ x. length x + length all) c.start-draft.ensures.content ∙ zero-add (length all) in
     let g0 = going_start all start (ap (λ x. fits (length x) (length (content start) + length all)) c.start-draft.ensures.space ∙ ap (fits (length before)) sum ∙ room) in

@@ -5,9 +5,9 @@ use Rattle.format.proofs.text.TextFormat.list.Goals as goal
 
 pub returns : goal.returns
 returns c =
-    let good = ap (λ j. j.number) (sym c.judge-text-verdict.ensures) ∙ c.if-verdict-ne0.false in
+    let good = ap (λ j. j.number) (sym c.judge_text-verdict.ensures) ∙ c.if-verdict-ne0.false in
     let is = text_accepted c.args.kind c.args.bytes.now good in
     record {
-      leaves = subst (λ m. Leaves m c.args.out.now c.list-text.new.out c.list-text.result) (sym is) c.list-text.ensures.leaves;
-      lends = c.list-text.ensures.lends;
+      leaves = subst (λ m. Leaves m c.args.out.now c.list_text.new.out c.list_text.result) (sym is) c.list_text.ensures.leaves;
+      lends = c.list_text.ensures.lends;
     }

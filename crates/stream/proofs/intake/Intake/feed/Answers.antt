@@ -4,8 +4,8 @@ use Rattle.stream.proofs.intake.Intake.feed.Goals as goal
 
 pub returns : goal.returns
 returns g c =
-    let d = feeding c.in-default.ensures c.take-all.ensures.does in
-    record { does = d; rest = c.take-all.ensures.rest; law = feeding_law d; room = c.take-all.ensures.room; lends = c.take-all.ensures.lends }
+    let d = feeding c.in_default.ensures c.take_all.ensures.does in
+    record { does = d; rest = c.take_all.ensures.rest; law = feeding_law d; room = c.take_all.ensures.room; lends = c.take_all.ensures.lends }
 
 pub returns-in-Err : goal.returns-in-Err
 returns-in-Err g c =

@@ -4,9 +4,9 @@ use Rattle.stream.proofs.intake.Intake.take.Goals as goal
 
 pub returns : goal.returns
 returns g c = record {
-  does = c.work-on.ensures.does;
-  rest = c.work-on.ensures.rest;
-  room = c.work-on.ensures.room;
-  lends = c.work-on.ensures.lends;
-  law = λ h k. tied_of (take-held (held_of k) c.work-on.ensures.does);
+  does = c.work_on.ensures.does;
+  rest = c.work_on.ensures.rest;
+  room = c.work_on.ensures.room;
+  lends = c.work_on.ensures.lends;
+  law = λ h k. tied_of (take-held (held_of k) c.work_on.ensures.does);
 }

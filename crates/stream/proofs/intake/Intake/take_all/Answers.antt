@@ -12,17 +12,17 @@ pub loop-answer-preserved : goal.loop-answer-preserved
 loop-answer-preserved g c =
     let i = c.loop-answer.invariant in
     let d = c.take-answer.ensures.does in (
-      more i.0 (at_room i.1 d) (sym c.if-not-is-record.ensures),
+      more i.0 (at_room i.1 d) (sym c.if-not-is_record.ensures),
       c.take-answer.ensures.room ∙ i.1,
       c.take-answer.ensures.lends ∙ i.2,
       c.take-answer.ensures.rest ∙ same_further _ _ _ _ (grows d) i.3,
     )
 
 pub loop-answer-smaller : goal.loop-answer-smaller
-loop-answer-smaller g c = falls c.take-answer.ensures.does (sym c.if-not-is-record.ensures)
+loop-answer-smaller g c = falls c.take-answer.ensures.does (sym c.if-not-is_record.ensures)
 
-pub returns-then-not-is-record : goal.returns-then-not-is-record
-returns-then-not-is-record g c =
+pub returns-then-not-is_record : goal.returns-then-not-is_record
+returns-then-not-is_record g c =
     let i = c.loop-answer.invariant in
     let d = c.take-answer.ensures.does in
     let t = terms (g.F.Framing.verdict c.args.framing.now) (g.F.Framing.reach c.args.framing.now) (g.G.Format.meaning c.args.formats.now) (room c.args.register.now) in
@@ -32,7 +32,7 @@ returns-then-not-is-record g c =
       left = c.loop-answer.space;
       many = i.0;
       last = at_room i.1 d;
-      ends = sym c.if-not-is-record.ensures;
+      ends = sym c.if-not-is_record.ensures;
     } in
     record {
       does = all;

@@ -12,11 +12,11 @@ returns-in-Record g c =
     let space : g.F.Framing.reach c.args.framing.now ≤ length c.args.space.now = omega (arith, c.if-space-limit.false, c.limit.ensures) in
     let free : length es < min 3968 n = omega (arith, c.if-len-min.false, c.len.ensures, c.room.ensures, c.min.ensures) in
     let has : ltb (length es) n ≡ true = lt-ltb (length es) n (omega arith) in
-    let entry = c.entry-at-entry.ensures in
+    let entry = c.entry_at-entry.ensures in
     record {
       does = brings space free c.in-Record.place c.in-Record.len c.in-Record.kind c.in-Record.ensures.next
           (ap (λ e. Ok (Record e)) entry) c.advance.ensures
-          (c.push.ensures.items ∙ cond-true (ltb (length es) n) _ _ has ∙ ap (λ e. es ++ (e ∷ [])) entry) c.copy-out.ensures;
+          (c.push.ensures.items ∙ cond-true (ltb (length es) n) _ _ has ∙ ap (λ e. es ++ (e ∷ [])) entry) c.copy_out.ensures;
       rest = c.push.ensures.rest;
       room = c.push.ensures.room;
       lends = c.push.ensures.lends;
@@ -29,7 +29,7 @@ returns-in-End g c =
     let space : g.F.Framing.reach c.args.framing.now ≤ length c.args.space.now = omega (arith, c.if-space-limit.false, c.limit.ensures) in
     let free : length es < min 3968 n = omega (arith, c.if-len-min.false, c.len.ensures, c.room.ensures, c.min.ensures) in
     record {
-      does = rests space free c.in-End.place c.in-End.ensures.next (ap Ok c.without-record-answer.ensures) c.skip.ensures.view refl refl;
+      does = rests space free c.in-End.place c.in-End.ensures.next (ap Ok c.without_record-answer.ensures) c.skip.ensures.view refl refl;
       rest = refl;
       room = refl;
       lends = refl;
