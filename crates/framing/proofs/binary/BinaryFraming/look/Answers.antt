@@ -6,4 +6,4 @@ use Rattle.framing.proofs.binary.BinaryFraming.look.Goals as goal
 pub returns : goal.returns
 returns c =
     let s = c.args.bytes.now in
-    record { verdict = c.judge.ensures; frames = subst (ExactlyFrames s) (sym c.judge.ensures) (exactly_frames s (λ i. (c.ok.bytes i).fits)) }
+    record { verdict = c.judge.ensures; frames = subst (ExactlyFrames s) (sym c.judge.ensures) (exactly_frames s (λ i. (c.type_inv.bytes i).fits)) }
