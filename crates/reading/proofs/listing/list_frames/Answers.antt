@@ -31,6 +31,6 @@ returns g c =
       all = refl;
       reading = listed-all (g.met.F.Framing.lawful c.args.framing.now) u c.in_default.ensures;
       frames = l.listed;
-      inside = l.inside-is;
+      inside = l.inside_is;
       passed = omega (arith, l.adds, u.within);
     }
