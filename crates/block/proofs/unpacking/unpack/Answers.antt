@@ -11,7 +11,7 @@ pub returns-in_err-blocks : goal.returns-in_err-blocks
 returns-in_err-blocks c =
     let s = c.args.bytes.now in
     let a = c.args.out.now in
-    let p = err_from_is_err_and c.from-residual.result c.from-residual.ensures.1 in
+    let p = err_from_is_err_and c.from_residual.result c.from_residual.ensures.1 in
     let is = c.in_err-blocks.ensures in
     record {
       says = p.1 ∙ ap Err p.2 ∙ sym (ap (λ u. answer u (free a)) is);
