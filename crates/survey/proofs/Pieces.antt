@@ -1,6 +1,6 @@
 -- Pieces fed one after the other: the law goes on from each to the next. Assumes nothing.
 use Rattle.std.proofs.Common.{◌≡◌, ℕ, Bool, List, [], ◌∷◌, ◌++◌, Some, None, Ok, Err, Option, Result, sym, refl, ◌∙◌, subst, append_assoc, arith}
-use Rattle.std.specs.declared.error.AnyError.{AnyError}
+use Rattle.anyhow.specs.declared.error.Error.{Error}
 use Rattle.common.specs.declared.refusal.Refusal.{Refusal}
 use Rattle.register.specs.declared.entry.Entry.{Entry}
 use Rattle.stream.specs.declared.answers.Fault.{Fault}
@@ -52,13 +52,13 @@ module _ {t : Terms} {v v₁ v₂ : View} {es es₁ es₂ : List Entry} {bytes :
       }
 
 -- where the end is no success, only the law is left to say
-pub ends_otherwise : {t : Terms} {v v' : View} {es es' : List Entry} (r : Result (Option Refusal) AnyError) → Goes_on t v v' es es'
+pub ends_otherwise : {t : Terms} {v v' : View} {es es' : List Entry} (r : Result (Option Refusal) Error) → Goes_on t v v' es es'
     → (r ≡ Ok None → ⊥) → ((x : Refusal) → r ≡ Ok (Some x) → (f : Fault) × (x ≡ told f)) → Registers t v v' es es' r
 ends_otherwise r on no_end is-told h tied =
     let so_far = on h tied in
     record { turns = so_far.0; stands = so_far.1; drained = λ e. absurd (no_end e); refused = is-told }
 
-pub ends_failed : {t : Terms} {v v' : View} {es es' : List Entry} (e : AnyError) → Goes_on t v v' es es' → Registers t v v' es es' (Err e)
+pub ends_failed : {t : Terms} {v v' : View} {es es' : List Entry} (e : Error) → Goes_on t v v' es es' → Registers t v v' es es' (Err e)
 ends_failed e on =
     ends_otherwise (Err e) on (λ s. let z : ◌≡◌ {A = ℕ} 0 1 = cc in omega arith)
     (λ x s. absurd (let z : ◌≡◌ {A = ℕ} 0 1 = cc in omega arith))

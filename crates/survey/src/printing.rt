@@ -51,7 +51,7 @@ pub fn conclude(rt: &HostRuntime, refused: Option<Refusal>, undone: &str) -> any
         let number = refusal.number;
         let words = refusal.meaning();
         eprintln!(rt; "refused, {number}: {words}")?;
-        return Err(undone.into());
+        return Err(anyhow!("{undone}"));
     }
     Ok(())
 }
