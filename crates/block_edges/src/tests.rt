@@ -3,6 +3,8 @@ use block::packing::{PackFault, pack};
 use block::unpacking::{UnpackFault, unpack};
 use common::list::List;
 use register::entry::Entry;
+use std::alloc::Global;
+use std::process::Abort;
 use std::test::*;
 
 const NONE: Entry = Entry {
@@ -15,8 +17,8 @@ const NONE: Entry = Entry {
 };
 
 // Some entries, each with numbers of its own.
-fn some_entries(rt: &HostRuntime, count: u16) -> Result<Vec<Entry>, Fail> {
-    let mut entries = Vec::new(rt.alloc());
+fn some_entries(alloc: Global, count: u16) -> Result<Vec<Entry>, Fail> {
+    let mut entries = Vec::new(alloc);
     for i in 0..count {
         entries.push(Entry {
             place: u64::MAX - i as u64,
@@ -31,31 +33,36 @@ fn some_entries(rt: &HostRuntime, count: u16) -> Result<Vec<Entry>, Fail> {
 }
 
 // Packs some entries into a space of exactly these bytes, and unpacks them into a table of exactly that many.
-fn goes_there_and_back(rt: &HostRuntime, count: u16, bytes: usize) -> Result<(), Fail> {
-    let entries = some_entries(rt, count)?;
-    let mut space = vec![in rt.alloc(); 7u8; bytes]?;
-    assert_eq!(pack(&entries, &mut space), Ok(bytes));
-    let mut table = vec![in rt.alloc(); NONE; entries.len()]?;
+fn goes_there_and_back(
+    rt: &impl Abort,
+    alloc: Global,
+    count: u16,
+    bytes: usize,
+) -> Result<(), Fail> {
+    let entries = some_entries(alloc, count)?;
+    let mut space = vec![in alloc; 7u8; bytes]?;
+    assert_eq!(rt; pack(&entries, &mut space), Ok(bytes));
+    let mut table = vec![in alloc; NONE; entries.len()]?;
     let mut list = List::new(&mut table);
-    assert_eq!(unpack(&space, &mut list), Ok(()));
-    assert!(list.as_slice() == entries.as_slice());
+    assert_eq!(rt; unpack(&space, &mut list), Ok(()));
+    assert!(rt; list.as_slice() == entries.as_slice());
     Ok(())
 }
 
 #[test]
 fn no_entry_one_and_one_block_more_or_less(rt: HostRuntime) -> Result<(), Fail> {
-    goes_there_and_back(&rt, 0, 0)?;
-    goes_there_and_back(&rt, 1, 512)?;
-    goes_there_and_back(&rt, 30, 512)?;
-    goes_there_and_back(&rt, 31, 512)?;
-    goes_there_and_back(&rt, 32, 1024)
+    goes_there_and_back(&rt, rt.alloc(), 0, 0)?;
+    goes_there_and_back(&rt, rt.alloc(), 1, 512)?;
+    goes_there_and_back(&rt, rt.alloc(), 30, 512)?;
+    goes_there_and_back(&rt, rt.alloc(), 31, 512)?;
+    goes_there_and_back(&rt, rt.alloc(), 32, 1024)
 }
 
 #[test]
 fn the_most_entries_and_one_past_them(rt: HostRuntime) -> Result<(), Fail> {
-    goes_there_and_back(&rt, 3967, 65536)?;
-    goes_there_and_back(&rt, 3968, 65536)?;
-    let entries = some_entries(&rt, 3969)?;
+    goes_there_and_back(&rt, rt.alloc(), 3967, 65536)?;
+    goes_there_and_back(&rt, rt.alloc(), 3968, 65536)?;
+    let entries = some_entries(rt.alloc(), 3969)?;
     let mut space = vec![in rt.alloc(); 7u8; 66048]?;
     assert_eq!(rt; pack(&entries, &mut space), Err(PackFault::NoSpace));
     Ok(())
@@ -63,7 +70,7 @@ fn the_most_entries_and_one_past_them(rt: HostRuntime) -> Result<(), Fail> {
 
 #[test]
 fn a_space_one_byte_short(rt: HostRuntime) -> Result<(), Fail> {
-    let entries = some_entries(&rt, 32)?;
+    let entries = some_entries(rt.alloc(), 32)?;
     let before = vec![in rt.alloc(); 7u8; 1023]?;
     let mut space = vec![in rt.alloc(); 7u8; 1023]?;
     assert_eq!(rt; pack(&entries, &mut space), Err(PackFault::NoSpace));
@@ -73,7 +80,7 @@ fn a_space_one_byte_short(rt: HostRuntime) -> Result<(), Fail> {
 
 #[test]
 fn a_table_one_entry_short(rt: HostRuntime) -> Result<(), Fail> {
-    let entries = some_entries(&rt, 32)?;
+    let entries = some_entries(rt.alloc(), 32)?;
     let mut space = vec![in rt.alloc(); 0u8; 1024]?;
     assert_eq!(rt; pack(&entries, &mut space), Ok(1024));
     let mut table = vec![in rt.alloc(); NONE; 31]?;
@@ -85,7 +92,7 @@ fn a_table_one_entry_short(rt: HostRuntime) -> Result<(), Fail> {
 
 #[test]
 fn the_first_wrong_block(rt: HostRuntime) -> Result<(), Fail> {
-    let entries = some_entries(&rt, 63)?;
+    let entries = some_entries(rt.alloc(), 63)?;
     let mut space = vec![in rt.alloc(); 0u8; 1536]?;
     assert_eq!(rt; pack(&entries, &mut space), Ok(1536));
     let mut table = vec![in rt.alloc(); NONE; 63]?;
