@@ -1,5 +1,5 @@
 -- One item more in the front of a table. Assumes nothing.
-use Rattle.std.proofs.Common.{◌≡◌, ℕ, ◌+◌, ◌<◌, ◌≤◌, Bool, true, false, cond, ltb, List, [], ◌∷◌, ◌++◌, length, take, drop, set, sym, refl, ap, ◌∙◌, arith, length-set, length-take}
+use Rattle.std.proofs.Common.{◌≡◌, ℕ, ◌+◌, ◌<◌, true, cond, ltb, List, [], ◌∷◌, ◌++◌, length, take, drop, set, sym, ap, ◌∙◌, arith, length-set, length-take}
 use Rattle.std.proofs.lemmas.List.{length-take-le, take_more_set, drop-set-lt}
 use Rattle.std.proofs.lemmas.Bool.{cond-true, lt-ltb}
 

@@ -11,7 +11,6 @@ use Rattle.reading.specs.Reading.{found, Reading}
 use Rattle.format.specs.Meaning.{Meaning}
 use Rattle.format.specs.Sentence.{sentence_meaning}
 use Rattle.format.specs.Text.{text_meaning}
-use Rattle.format.specs.declared.format.Part.{Part}
 use Rattle.format.specs.Items.{item_of}
 use Rattle.velocity.specs.Df3.{df3_meaning}
 use Rattle.velocity.specs.Profile.{centre_of}

@@ -6,7 +6,7 @@ use Rattle.common.specs.declared.list.List.{List as ListedIn}
 use Rattle.common.specs.Lists.{items, room, has_room}
 use Rattle.format.specs.declared.format.Part.{Part}
 use Rattle.format.specs.declared.format.PartsFault.TheVariants.{TableShort}
-use Rattle.format.specs.Meaning.{Meaning, Leaves, listing}
+use Rattle.format.specs.Meaning.{Meaning, Leaves}
 use Rattle.format.specs.Added.{Added}
 
 module _ (a b : ListedIn Part) (x : Part) where

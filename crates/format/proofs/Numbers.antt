@@ -1,9 +1,9 @@
 -- Items as numbers. Assumes nothing.
-use Rattle.std.proofs.Common.{◌≡◌, ℕ, suc, ◌+◌, ◌*◌, ◌<◌, ◌≤◌, Bool, true, false, cond, eqb, ltb, leb, ◌⊎◌, List, [], ◌∷◌, length, get_or, ℤ, pos, sym, refl, ap, ◌∙◌, inl, inr, mul-le-mul_left, arith, w8, w16, w32, to_z}
+use Rattle.std.proofs.Common.{◌≡◌, ℕ, suc, ◌+◌, ◌*◌, ◌≤◌, Bool, true, cond, eqb, ltb, ◌⊎◌, List, [], ◌∷◌, length, get_or, pos, ap, inl, inr, mul-le-mul_left, arith, w8, w16, w32, to_z}
 use Rattle.std.proofs.lemmas.Bool.{and_parts, or_cases, eqb-true, ltb-true}
 use Rattle.format.specs.declared.format.Part.{Part}
 use Rattle.format.specs.Meaning.{size}
-use Rattle.format.specs.Items.{number, value, readable}
+use Rattle.format.specs.Items.{value, readable}
 
 pub value_one : (b : Bool) (s : List ℕ) → length s ≡ 1 → cond b (to_z w8 (get_or s 0 0)) (pos (get_or s 0 0)) ≡ value b s
 value_one b (x ∷ []) e = ap (λ n. cond b (to_z w8 n) (pos n)) (omega arith)

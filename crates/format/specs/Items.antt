@@ -1,12 +1,12 @@
 -- What is taken from a part: its bytes, and its items as numbers. Assumes nothing.
-use Rattle.std.specs.Prelude.{ℕ, ◌+◌, ◌*◌, Bool, true, false, cond, ◌&&◌, ◌||◌, List, [], ◌∷◌, length, take, drop, ℤ, pos, Ok, Err, Result, ◌==◌, nat_le, nat_lt}
+use Rattle.std.specs.Prelude.{ℕ, ◌+◌, ◌*◌, Bool, cond, ◌&&◌, ◌||◌, List, [], ◌∷◌, length, take, drop, ℤ, pos, Ok, Err, Result, ◌==◌, nat_le, nat_lt}
 use Rattle.std.specs.Int.{w8, w16, w32}
 use Rattle.std.proofs.Common.{to_z}
 use Rattle.common.specs.declared.refusal.Refusal.{Refusal}
 use Rattle.format.specs.declared.format.Part.{Part}
 use Rattle.format.specs.declared.items.ItemFault.{ItemFault}
 use Rattle.format.specs.declared.items.ItemFault.TheVariants.{Outside, NoItem}
-use Rattle.format.specs.Meaning.{size, bytes_of}
+use Rattle.format.specs.Meaning.{size}
 
 -- whether a part lies inside a record
 abbrev pub inside : List ℕ → Part → Bool

@@ -1,5 +1,5 @@
 -- Sentences, kind 2: the fields between `$`, the commas and the first `*`. Assumes nothing.
-use Rattle.std.specs.Prelude.{ℕ, zero, suc, ◌+◌, Bool, true, false, cond, ◌&&◌, ◌||◌, List, [], ◌∷◌, length, drop, Some, None, Option, ◌==◌, nat_le, slice_index}
+use Rattle.std.specs.Prelude.{ℕ, zero, suc, ◌+◌, Bool, false, cond, ◌&&◌, ◌||◌, List, [], ◌∷◌, length, drop, Some, None, Option, ◌==◌, nat_le, slice_index}
 use Rattle.format.specs.declared.format.Part.{Part}
 use Rattle.format.specs.Meaning.{Meaning, unclaimed, faulty, accepted}
 use Rattle.format.specs.Text.{plain}

@@ -1,5 +1,5 @@
 -- String records: kind 1, series 0xA0. Assumes nothing.
-use Rattle.std.specs.Prelude.{ℕ, ◌+◌, ◌-◌, Bool, true, false, cond, ◌&&◌, List, [], ◌∷◌, length, ◌==◌, nat_le, nat_lt, slice_index}
+use Rattle.std.specs.Prelude.{ℕ, ◌-◌, Bool, false, cond, ◌&&◌, List, [], ◌∷◌, length, ◌==◌, nat_le, nat_lt, slice_index}
 use Rattle.format.specs.declared.format.Part.{Part}
 use Rattle.format.specs.Meaning.{Meaning, unclaimed, faulty, accepted}
 

@@ -1,11 +1,10 @@
 -- The binary verdict is a frame exactly when the bytes begin with a header and its data. Assumes nothing.
-use Rattle.std.proofs.Common.{◌≡◌, ℕ, ◌+◌, ◌-◌, ◌*◌, ◌/◌, ◌%◌, ◌<◌, ◌≤◌, Bool, true, cond, eqb, leb, List, [], ◌∷◌, ◌++◌, length, get_or, take, drop, sym, refl, ap, ◌∙◌, subst, append_assoc, arith, length-append, length-drop, take-append-drop, length-take}
-use Rattle.std.proofs.lemmas.List.{drop-take, drop_more, get_or-take, get_or-drop, take_at, drop_at, drop-drop, length-take-le}
-use Rattle.std.proofs.lemmas.Bool.{and_parts, and_from, leb-true, le-leb, eqb-true, eq-eqb}
-use Rattle.framing.specs.declared.verdict.Verdict.{Verdict}
+use Rattle.std.proofs.Common.{◌≡◌, ℕ, ◌+◌, ◌*◌, ◌/◌, ◌%◌, ◌<◌, ◌≤◌, true, cond, eqb, leb, List, [], ◌∷◌, ◌++◌, length, get_or, take, drop, sym, refl, ap, ◌∙◌, subst, arith, length-append, length-drop, take-append-drop, length-take}
+use Rattle.std.proofs.lemmas.List.{drop-take, get_or-take, take_at}
+use Rattle.std.proofs.lemmas.Bool.{and_parts, and_from, le-leb, eqb-true, eq-eqb}
 use Rattle.framing.specs.declared.verdict.Verdict.TheVariants.{NoFrame, Frame}
-use Rattle.framing.specs.Checksum.{checksum, words}
-use Rattle.framing.specs.Plan.{Plan, await, frame, given, judged}
+use Rattle.framing.specs.Checksum.{checksum}
+use Rattle.framing.specs.Plan.{frame, given, judged}
 use Rattle.framing.specs.Binary.{binary, header, body, headed, word, bytes_of, header_front, header_of, Framed, ExactlyFrames}
 use Rattle.framing.specs.Plans.{await_frame, given_frame}
 use Rattle.framing.specs.BinaryPlan.{after_sync, binary_data, headed_size}

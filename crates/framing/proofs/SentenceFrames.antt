@@ -1,16 +1,15 @@
 -- The sentence verdict is a frame exactly when the bytes begin with a sentence. Assumes nothing.
-use Rattle.std.proofs.Common.{◌≡◌, ℕ, suc, ◌+◌, ◌-◌, ◌*◌, ◌/◌, ◌%◌, ◌<◌, ◌≤◌, Bool, true, false, cond, ◌&&◌, eqb, ltb, leb, List, [], ◌∷◌, ◌++◌, length, get_or, take, drop, Some, None, fold, Option, sym, refl, ap, ◌∙◌, subst, inl, inr, append_assoc, one-add, arith, length-append, length-drop, take-append-drop, length-take}
+use Rattle.std.proofs.Common.{◌≡◌, ℕ, ◌+◌, ◌*◌, ◌/◌, ◌%◌, ◌<◌, ◌≤◌, Bool, true, false, cond, ◌&&◌, eqb, ltb, leb, List, [], ◌∷◌, ◌++◌, length, get_or, take, drop, Some, None, fold, Option, sym, refl, ap, ◌∙◌, subst, append_assoc, one-add, arith, length-append, length-drop, take-append-drop, length-take}
 use lib.Bits.{bit_xor}
 use Rattle.std.specs.List.{prefix_len, AllByRecursion as All}
 use Rattle.std.proofs.lemmas.List.{drop_more, get_or-drop, get_or-take}
 use Rattle.std.proofs.lemmas.Nat.{xor_lt}
-use Rattle.std.proofs.lemmas.List.Sums.{prefix_len-le-length}
-use Rattle.std.proofs.lemmas.Bool.{and_parts, and_from, leb-true, le-leb, lt-ltb, le-ltb, ltb-false, eqb-true, eq-eqb, cases_Bool, cases_lt, true≢false}
+use Rattle.std.proofs.lemmas.Bool.{and_parts, and_from, leb-true, le-leb, lt-ltb, le-ltb, ltb-false, eqb-true, eq-eqb, true≢false}
 use Rattle.std.proofs.lemmas.Bool.Decides.{nat_tests}
 use Rattle.framing.specs.declared.verdict.Verdict.{Verdict}
 use Rattle.framing.specs.declared.verdict.Verdict.TheVariants.{NoFrame, Short, Frame}
-use Rattle.framing.specs.Plan.{Plan, span, spanned, given, judged}
-use Rattle.framing.specs.Sentence.{payload, xor_of, hex_value, give, finished, closing, sentence, hex_digit, sentence_of, Framed, ExactlySentences}
+use Rattle.framing.specs.Plan.{span, spanned, given, judged}
+use Rattle.framing.specs.Sentence.{payload, xor_of, hex_value, give, finished, closing, sentence, hex_digit, Framed, ExactlySentences}
 use Rattle.framing.specs.Plans.{frame_len, frame_kind, await_frame, given_frame, span_frame}
 use Rattle.framing.specs.SentencePlan.{closing_is, sentence_is}
 

@@ -1,15 +1,14 @@
 -- The plan of the sentence framing: it is sound, and what it comes to behind the payload. Assumes nothing.
-use Rattle.std.specs.Prelude.{◌≡◌, ℕ, zero, suc, ◌+◌, ◌-◌, ◌<◌, ◌≤◌, min, max, Bool, true, false, cond, ◌&&◌, ltb, List, [], ◌∷◌, ◌++◌, length, take, drop, ◌==◌, nat_le, nat_lt, slice_index, slice_index_or, slice_range, refl}
+use Rattle.std.specs.Prelude.{◌≡◌, ℕ, zero, suc, ◌+◌, ◌-◌, ◌<◌, ◌≤◌, min, max, Bool, true, false, cond, ltb, List, [], ◌∷◌, ◌++◌, length, take, drop, ◌==◌, nat_le, nat_lt, slice_index, slice_index_or, slice_range, refl}
 use Rattle.std.proofs.Common.{sym, ap, ◌∙◌, arith, length-append, length-take, length-drop}
 use Rattle.std.specs.List.{prefix_len}
-use Rattle.std.proofs.lemmas.List.{take_at, drop_at, get_or-take, drop-take, get_or-append_right, take-append-le, take-take, drop-drop, drop_more, take_rest, take-append-drop}
+use Rattle.std.proofs.lemmas.List.{take_at, drop_at, get_or-take, drop-take, get_or-append_right, take-take, drop-drop, drop_more, take_rest, take-append-drop}
 use Rattle.std.proofs.lemmas.List.Sums.{prefix_len-le-length}
 use Rattle.std.proofs.lemmas.Bool.{eq-eqb, lt-ltb, le-ltb, lt-leb, le-leb}
 use Rattle.std.proofs.lemmas.Bool.Decides.{nat_tests}
-use Rattle.framing.specs.declared.verdict.Verdict.{Verdict}
 use Rattle.framing.specs.declared.verdict.Verdict.TheVariants.{NoFrame, Short, Frame}
 use Rattle.framing.specs.Verdicts.{Laws}
-use Rattle.framing.specs.Plan.{Plan, none, await, span, frame, given, spanned, judged, Sound}
+use Rattle.framing.specs.Plan.{Plan, await, span, frame, given, spanned, judged, Sound}
 use Rattle.framing.specs.Sentence.{sentence, closing, finished, payload, xor_of}
 use Rattle.framing.specs.Plans.{lawful, given_sound, judged_await, judged_given, judged_last}
 

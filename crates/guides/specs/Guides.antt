@@ -1,5 +1,5 @@
 -- Which format records of a kind and a series have, and which guide describes it. Assumes nothing.
-use Rattle.std.specs.Prelude.{ℕ, Bool, cond, ◌||◌, List, [], codes, eqb}
+use Rattle.std.specs.Prelude.{ℕ, cond, ◌||◌, List, [], codes, eqb}
 use Rattle.guides.specs.declared.RecordFormat.{RecordFormat}
 use Rattle.guides.specs.declared.RecordFormat.TheVariants.{Df3, Df7, Text, Sentence, Unknown}
 

@@ -1,11 +1,11 @@
 -- A reading worked on record by record, and its records listed. Assumes nothing.
-use Rattle.std.proofs.Common.{◌≡◌, ℕ, ◌+◌, ◌-◌, ◌≤◌, Bool, true, List, [], ◌∷◌, ◌++◌, map, length, take, drop, sum_by, sym, refl, ap, ◌∙◌, subst, append_assoc, append-nil, arith, length-drop, length-take}
+use Rattle.std.proofs.Common.{◌≡◌, ℕ, ◌+◌, ◌-◌, ◌≤◌, Bool, true, List, [], ◌∷◌, ◌++◌, map, length, sym, refl, ap, ◌∙◌, subst, append_assoc, append-nil, arith, length-drop, length-take}
 use Rattle.std.proofs.lemmas.List.{map_push}
 use Rattle.std.proofs.lemmas.List.Sums.{sum_by_push}
 use Rattle.framing.specs.declared.verdict.Verdict.{Verdict}
 use Rattle.reading.specs.declared.listing.Line.{Line}
 use Rattle.framing.specs.Verdicts.{Laws}
-use Rattle.reading.specs.Reading.{Found, found, Reading, Comes, series_of}
+use Rattle.reading.specs.Reading.{Found, found, Reading, Comes}
 use Rattle.reading.specs.Listed.{line_of, framed}
 use Rattle.reading.proofs.Readings.{closed_end}
 

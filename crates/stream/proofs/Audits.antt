@@ -1,5 +1,5 @@
 -- The theorems for the auditor: complete, cuts do not matter, one answer. Assumes nothing.
-use Rattle.std.proofs.Common.{◌≡◌, ℕ, ◌+◌, ◌-◌, ◌<◌, ◌≤◌, Bool, true, false, List, [], ◌∷◌, ◌++◌, map, length, take, drop, Ok, Err, Result, sym, refl, ap, ◌∙◌, subst, arith, length-append}
+use Rattle.std.proofs.Common.{◌≡◌, ℕ, ◌-◌, Bool, true, false, List, [], ◌∷◌, ◌++◌, map, length, take, drop, Ok, Err, Result, sym, refl, ap, ◌∙◌, subst, arith, length-append}
 use Rattle.std.proofs.lemmas.List.{take_all, drop_all}
 use Rattle.register.specs.declared.entry.Entry.{Entry}
 use Rattle.reading.specs.Reading.{Found, Reading, ends}
@@ -8,12 +8,11 @@ use Rattle.reading.proofs.Readings.{unique, exists, closed_end}
 use Rattle.stream.specs.declared.answers.Fault.{Fault}
 use Rattle.stream.specs.declared.answers.Taken.{Taken}
 use Rattle.stream.specs.declared.answers.Taken.TheVariants.{Record, NotYet, Drained}
-use Rattle.stream.specs.Answers.{ask_deliver, ask_close, nothing}
+use Rattle.stream.specs.Answers.{nothing}
 use Rattle.stream.specs.View.{View, Terms, Lawful, entry_by, entry_of, totals}
 use Rattle.stream.specs.History.{Turn, delivered, took, closing, looked, History, accepted, closed, brought, behind, Reads, Reached}
-use Rattle.stream.specs.Law.{TakeSaid, short, full, next, none, Said, Answered, totals_of, Law, Tied}
+use Rattle.stream.specs.Law.{TakeSaid, short, full, next, none, Said, Answered, totals_of, Tied}
 use Rattle.stream.specs.Theorems.{HasDrained, here, before, Complete, CutsDoNotMatter, SameRequest, delivery, taking, close, tell, OneAnswer}
-use Rattle.stream.proofs.Progress.{whole}
 use Rattle.stream.proofs.Histories.{ok_open, close_open, progress_of, some_there, none_there}
 
 both : {c : Bool} → c ≡ true → c ≡ false → ⊥

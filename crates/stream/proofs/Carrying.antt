@@ -1,5 +1,5 @@
 -- Requests run one after the other. Assumes nothing.
-use Rattle.std.proofs.Common.{◌≡◌, ℕ, ◌+◌, ◌<◌, ◌≤◌, List, [], ◌∷◌, ◌++◌, length, get_or, take, sym, refl, ap, ◌∙◌, subst, append_assoc, append-nil}
+use Rattle.std.proofs.Common.{◌≡◌, ℕ, ◌+◌, ◌<◌, List, [], ◌∷◌, ◌++◌, length, get_or, take, sym, ap, ◌∙◌, subst, append_assoc, append-nil}
 use Rattle.std.proofs.lemmas.List.{take_more}
 use Rattle.register.specs.declared.entry.Entry.{Entry}
 use Rattle.stream.specs.declared.runs.Request.{Request}
@@ -7,7 +7,6 @@ use Rattle.framing.specs.declared.verdict.Verdict.{Verdict}
 use Rattle.format.specs.Meaning.{Meaning}
 use Rattle.stream.specs.View.{View, Terms, terms}
 use Rattle.stream.specs.History.{Turn, History}
-use Rattle.stream.specs.Law.{Tied}
 use Rattle.stream.specs.Requests.{Answers, Follows, none, more, Carries}
 
 pub one_turn : {bytes : List ℕ} {h : History} {a : Turn} {s s' : List ℕ} {q p : Request} → q ≡ p → Answers bytes p a s s' → Follows bytes h s (q ∷ []) (a ∷ h) s'

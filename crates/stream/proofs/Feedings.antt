@@ -11,7 +11,7 @@ use Rattle.stream.specs.View.{View, Terms, terms, Delivers, closed_view, entry_o
 use Rattle.stream.specs.History.{delivered, took, closing, History, accepted, closed}
 use Rattle.stream.specs.Law.{Tied}
 use Rattle.stream.specs.Feeding.{JustSaid, Fed, Feeds, brings_record, Many, none, more, TakesAll, Accepts, Feeding, refused, fed}
-use Rattle.stream.proofs.Histories.{Held, ok_open, held_of, tied_of, no_record}
+use Rattle.stream.proofs.Histories.{ok_open, held_of, tied_of}
 use Rattle.stream.proofs.Turns.{deliver_held, close-held, take-held}
 
 -- a record leaves fewer bytes waiting, and no take takes an entry away

@@ -1,21 +1,18 @@
 -- From histories whose turns were answered to what was brought, and to the law. Assumes nothing.
-use Rattle.std.proofs.Common.{◌≡◌, ℕ, ◌+◌, ◌-◌, ◌<◌, ◌≤◌, Bool, true, false, cond, leb, List, [], ◌∷◌, ◌++◌, map, length, take, drop, Ok, Err, Result, sym, refl, ap, ◌∙◌, subst, arith, length-append}
-use Rattle.std.specs.List.{AllByRecursion as All}
+use Rattle.std.proofs.Common.{◌≡◌, ℕ, ◌+◌, ◌-◌, ◌<◌, ◌≤◌, Bool, true, false, List, [], ◌∷◌, map, length, drop, Ok, Err, Result, sym, refl, ap, ◌∙◌, subst, arith, length-append}
 use Rattle.std.proofs.ByRecursion.{All-weaker, All-append}
 use Rattle.std.proofs.lemmas.List.{length-map}
 use Rattle.register.specs.declared.entry.Entry.{Entry}
-use Rattle.framing.specs.Verdicts.{Laws}
-use Rattle.reading.specs.Reading.{Found, Reading}
+use Rattle.reading.specs.Reading.{Found}
 use Rattle.reading.specs.Listed.{framed}
 use Rattle.reading.proofs.Readings.{unique, exists}
 use Rattle.stream.specs.declared.answers.Fault.{Fault}
-use Rattle.stream.specs.declared.answers.Fault.TheVariants.{Closed, TooMany, NoRoom, SpaceShort, RegisterFull}
 use Rattle.stream.specs.declared.answers.Taken.{Taken}
 use Rattle.stream.specs.declared.answers.Taken.TheVariants.{Record, NotYet, Drained}
-use Rattle.stream.specs.Answers.{ask_deliver, ask_close, nothing, most_accepted, most_waiting}
+use Rattle.stream.specs.Answers.{ask_deliver, ask_close, nothing}
 use Rattle.stream.specs.View.{View, Terms, Lawful, entry_of}
-use Rattle.stream.specs.History.{Turn, delivered, took, closing, looked, History, accepted, closed, brought, behind, Reads, Reached}
-use Rattle.stream.specs.Law.{TakeSaid, short, full, next, none, Said, Answered, Outside, Law, Tied}
+use Rattle.stream.specs.History.{delivered, took, closing, looked, History, accepted, closed, brought, Reads, Reached}
+use Rattle.stream.specs.Law.{TakeSaid, short, full, next, none, Answered, Outside, Tied}
 use Rattle.stream.proofs.Works.{first, places}
 use Rattle.stream.proofs.Progress.{Progress, nothing_yet, with_more, with_close, with_take, whole, split, front_is}
 

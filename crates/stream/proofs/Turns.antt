@@ -1,26 +1,24 @@
 -- One turn more: from what a call does to the law of the longer history. Assumes nothing.
-use Rattle.std.proofs.Common.{◌≡◌, ℕ, ◌+◌, ◌-◌, ◌<◌, ◌≤◌, Bool, true, false, cond, not, List, [], ◌∷◌, ◌++◌, map, length, take, drop, is_ok, Ok, Err, Result, sym, refl, ap, ◌∙◌, subst, append-nil, add-zero, arith, length-append, length-drop, length-take}
-use Rattle.std.specs.List.{AllByRecursion as All}
-use Rattle.std.proofs.lemmas.List.{drop-drop, drop-append-le, map-append, length-map, map_push}
+use Rattle.std.proofs.Common.{◌≡◌, ℕ, ◌+◌, ◌-◌, ◌<◌, ◌≤◌, Bool, true, false, not, List, [], ◌∷◌, ◌++◌, map, length, take, drop, Ok, Err, Result, sym, refl, ap, ◌∙◌, subst, append-nil, add-zero, arith, length-append, length-drop, length-take}
+use Rattle.std.proofs.lemmas.List.{drop-drop, drop-append-le, map-append, length-map}
 use Rattle.std.proofs.lemmas.List.Sums.{sum_by-append}
 use Rattle.register.specs.declared.entry.Entry.{Entry}
 use Rattle.register.specs.declared.entry.Totals.{Totals}
-use Rattle.framing.specs.Verdicts.{Laws}
 use Rattle.reading.specs.Reading.{Found, found, Reading, Comes}
 use Rattle.reading.specs.Listed.{framed}
 use Rattle.reading.proofs.Readings.{exists}
 use Rattle.stream.specs.declared.answers.Fault.{Fault}
 use Rattle.stream.specs.declared.answers.Fault.TheVariants.{SpaceShort, RegisterFull}
 use Rattle.stream.specs.declared.answers.Taken.{Taken}
-use Rattle.stream.specs.declared.answers.Taken.TheVariants.{Record, NotYet, Drained}
+use Rattle.stream.specs.declared.answers.Taken.TheVariants.{Record}
 use Rattle.stream.specs.Answers.{ask_deliver, ask_close, nothing}
 use Rattle.stream.specs.View.{View, new_view, Terms, Lawful, entry_of, Delivers, Closes, totals, base, found_at, advanced, rested, Takes, short, full, brings, rests}
-use Rattle.stream.specs.History.{Turn, delivered, took, closing, looked, History, accepted, closed, brought, behind, Reads, Reached}
+use Rattle.stream.specs.History.{delivered, took, closing, looked, History, accepted, closed, brought, Reads}
 use Rattle.stream.specs.Law as law
 use Rattle.stream.specs.Law.{TakeSaid, Said, Answered, totals_of}
-use Rattle.stream.proofs.Works.{in_whole, moved, few-left, first}
-use Rattle.stream.proofs.Progress.{Progress, nothing_yet, with_more, with_close, with_take, whole, front_is}
-use Rattle.stream.proofs.Histories.{Held, ok_open, close_open}
+use Rattle.stream.proofs.Works.{in_whole, moved, few-left}
+use Rattle.stream.proofs.Progress.{nothing_yet, with_more, with_close, with_take, whole, front_is}
+use Rattle.stream.proofs.Histories.{Held, ok_open}
 
 pub new_held : {t : Terms} → Lawful t → Held t [] new_view []
 unfolding nothing_yet

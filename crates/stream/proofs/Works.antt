@@ -1,5 +1,5 @@
 -- Readings worked on: in a part of the stream, in a longer stream, and behind the first record. Assumes nothing.
-use Rattle.std.proofs.Common.{◌≡◌, ℕ, ◌+◌, ◌-◌, ◌<◌, ◌≤◌, Bool, true, false, List, [], ◌∷◌, ◌++◌, map, length, take, drop, sym, refl, ap, ◌∙◌, subst, inl, inr, append-nil, arith, length-append, length-drop, length-take}
+use Rattle.std.proofs.Common.{◌≡◌, ℕ, ◌+◌, ◌-◌, ◌<◌, ◌≤◌, Bool, true, false, List, [], ◌∷◌, ◌++◌, map, length, take, drop, sym, ap, ◌∙◌, subst, inl, inr, append-nil, arith, length-append, length-drop, length-take}
 use Rattle.std.specs.List.{AllByRecursion as All}
 use Rattle.std.proofs.lemmas.List.{drop-drop, drop-append-le, take-append-le}
 use Rattle.std.proofs.ByRecursion.{All-weaker}
@@ -7,8 +7,7 @@ use Rattle.std.proofs.lemmas.Bool.{cases_lt}
 use Rattle.framing.specs.declared.verdict.Verdict.{Verdict}
 use Rattle.framing.specs.declared.verdict.Verdict.TheVariants.{NoFrame, Short, Frame}
 use Rattle.framing.specs.Verdicts.{Laws}
-use Rattle.reading.specs.Reading.{Found, found, Reading, ends, stops, cuts, skips, takes, Comes}
-use Rattle.reading.proofs.Readings.{unique, exists, bounds}
+use Rattle.reading.specs.Reading.{Found, found, Reading, ends, stops, cuts, skips, takes}
 use Rattle.stream.specs.History.{behind}
 
 -- a record of what is left of a stream, as one of the whole

@@ -1,5 +1,5 @@
 -- Histories of turns, and what they come to. Assumes nothing.
-use Rattle.std.specs.Prelude.{◌≡◌, ℕ, ◌+◌, ◌-◌, ◌<◌, ◌≤◌, Bool, true, false, List, [], ◌∷◌, ◌++◌, length, Ok, Err, Result}
+use Rattle.std.specs.Prelude.{◌≡◌, ℕ, ◌+◌, Bool, true, false, List, [], ◌∷◌, ◌++◌, length, Ok, Err, Result}
 use Rattle.register.specs.declared.entry.Totals.{Totals}
 use Rattle.reading.specs.Reading.{Found, Reading}
 use Rattle.stream.specs.declared.answers.Fault.{Fault}

@@ -1,5 +1,5 @@
 -- The law over histories: how every turn is answered, and what the register then lists. Assumes nothing.
-use Rattle.std.specs.Prelude.{◌≡◌, ℕ, ◌+◌, ◌-◌, ◌<◌, ◌≤◌, Bool, true, false, not, List, [], ◌∷◌, ◌++◌, map, length, take, drop, Ok, Err, Result}
+use Rattle.std.specs.Prelude.{◌≡◌, ℕ, ◌+◌, ◌-◌, ◌<◌, ◌≤◌, false, not, List, [], ◌∷◌, ◌++◌, map, length, take, drop, Ok, Err, Result}
 use Rattle.std.specs.List.{AllByRecursion as All}
 use Rattle.register.specs.declared.entry.Entry.{Entry}
 use Rattle.register.specs.declared.entry.Totals.{Totals}
@@ -8,7 +8,7 @@ use Rattle.reading.specs.Listed.{framed}
 use Rattle.stream.specs.declared.answers.Fault.{Fault}
 use Rattle.stream.specs.declared.answers.Fault.TheVariants.{SpaceShort, RegisterFull}
 use Rattle.stream.specs.declared.answers.Taken.{Taken}
-use Rattle.stream.specs.declared.answers.Taken.TheVariants.{Record, NotYet, Drained}
+use Rattle.stream.specs.declared.answers.Taken.TheVariants.{Record}
 use Rattle.stream.specs.Answers.{ask_deliver, ask_close, nothing, most_waiting}
 use Rattle.stream.specs.View.{View, Terms, Lawful, entry_of}
 use Rattle.stream.specs.History.{Turn, delivered, took, closing, looked, History, accepted, closed, brought, Reads, Reached}

@@ -4,7 +4,7 @@ use Rattle.register.specs.declared.entry.Entry.{Entry}
 use Rattle.register.specs.declared.entry.Totals.{Totals}
 use Rattle.framing.specs.declared.verdict.Verdict.{Verdict}
 use Rattle.framing.specs.Verdicts.{Laws as FramingLaws}
-use Rattle.reading.specs.Reading.{Found, found, Reading, Comes, series_of}
+use Rattle.reading.specs.Reading.{Found, Reading, Comes, series_of}
 use Rattle.format.specs.Meaning.{Meaning, Laws as FormatLaws}
 use Rattle.stream.specs.declared.answers.Fault.{Fault}
 use Rattle.stream.specs.declared.answers.Fault.TheVariants.{SpaceShort, RegisterFull}

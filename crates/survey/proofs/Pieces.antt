@@ -1,5 +1,5 @@
 -- Pieces fed one after the other: the law goes on from each to the next. Assumes nothing.
-use Rattle.std.proofs.Common.{◌≡◌, ℕ, Bool, List, [], ◌∷◌, ◌++◌, Some, None, Ok, Err, Option, Result, sym, refl, ◌∙◌, subst, append_assoc, arith}
+use Rattle.std.proofs.Common.{◌≡◌, ℕ, Bool, List, [], ◌++◌, Some, None, Ok, Err, Option, Result, sym, ◌∙◌, subst, append_assoc, arith}
 use Rattle.anyhow.specs.declared.error.Error.{Error}
 use Rattle.common.specs.declared.refusal.Refusal.{Refusal}
 use Rattle.register.specs.declared.entry.Entry.{Entry}
@@ -12,8 +12,8 @@ use Rattle.format.specs.Meaning.{Meaning}
 use Rattle.stream.specs.View.{View, Terms, terms}
 use Rattle.stream.specs.History.{History}
 use Rattle.stream.specs.Law.{Tied}
-use Rattle.stream.specs.Feeding.{JustSaid, Feeds, Fed}
-use Rattle.survey.specs.Registered.{Registered, Registers}
+use Rattle.stream.specs.Feeding.{JustSaid, Feeds}
+use Rattle.survey.specs.Registered.{Registers}
 
 -- whatever history stood before, one that goes on from it stands
 abbrev pub Goes_on : Terms → View → View → List Entry → List Entry → Type 0

@@ -1,10 +1,9 @@
 -- What stands after standard input was registered, whatever it was. Assumes nothing.
-use Rattle.std.specs.Prelude.{◌≡◌, List, ◌++◌, Some, None, Ok, Err, Option, Result}
+use Rattle.std.specs.Prelude.{◌≡◌, List, ◌++◌, Some, None, Ok, Option, Result}
 use Rattle.anyhow.specs.declared.error.Error.{Error}
 use Rattle.common.specs.declared.refusal.Refusal.{Refusal}
 use Rattle.register.specs.declared.entry.Entry.{Entry}
 use Rattle.stream.specs.declared.answers.Fault.{Fault}
-use Rattle.stream.specs.declared.answers.Taken.{Taken}
 use Rattle.stream.specs.declared.answers.Taken.TheVariants.{Drained}
 use Rattle.stream.specs.Answers.{told}
 use Rattle.stream.specs.View.{View, Terms}

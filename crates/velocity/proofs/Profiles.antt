@@ -1,12 +1,12 @@
 -- What is known of an accepted DF3 record: no correlation is above 100, and the items of its arrays lie inside it. Assumes nothing.
-use Rattle.std.proofs.Common.{◌≡◌, ℕ, zero, suc, ◌+◌, ◌-◌, ◌*◌, ◌/◌, ◌%◌, ◌^◌, ◌<◌, ◌≤◌, Bool, true, false, cond, ◌&&◌, eqb, ltb, leb, List, [], ◌∷◌, length, get_or, take, drop, Some, None, Ok, Err, Option, Result, sym, refl, ap, ◌∙◌, arith, length-drop, length-take}
-use Rattle.std.proofs.lemmas.Nat.{mul-add-lt, mul-le}
+use Rattle.std.proofs.Common.{◌≡◌, ℕ, zero, suc, ◌+◌, ◌-◌, ◌*◌, ◌/◌, ◌%◌, ◌^◌, ◌<◌, ◌≤◌, Bool, true, false, cond, ◌&&◌, eqb, ltb, leb, List, [], ◌∷◌, length, get_or, take, drop, Some, None, Ok, Err, Option, sym, refl, ap, ◌∙◌, arith, length-drop, length-take}
+use Rattle.std.proofs.lemmas.Nat.{mul-add-lt}
 use Rattle.std.proofs.lemmas.List.{get_or-take, get_or-drop}
 use Rattle.std.proofs.lemmas.Bool.{cond_both, cond-true, and_parts, and_from, leb-true, ltb-false, lt-ltb}
-use Rattle.format.specs.Meaning.{Meaning, faulty, accepted, unclaimed, data_place}
+use Rattle.format.specs.Meaning.{Meaning, unclaimed, data_place}
 use Rattle.velocity.specs.Layout.{word, data_size}
 use Rattle.velocity.specs.Clock.{clock_at}
-use Rattle.velocity.specs.Df3.{df3_offset, beams, cells, included, velocities, amplitudes, correlations, amplitude_position, correlation_position, arrays_end, df3_claims, first_above, high_correlation, df3_correlated, df3_arrayed, df3_clocked, df3_judged, df3_meaning}
+use Rattle.velocity.specs.Df3.{df3_offset, beams, cells, included, correlations, correlation_position, arrays_end, df3_claims, first_above, high_correlation, df3_correlated, df3_arrayed, df3_clocked, df3_judged, df3_meaning}
 use Rattle.velocity.specs.declared.profile.ProfileFault.{ProfileFault}
 use Rattle.velocity.specs.declared.profile.ProfileFault.TheVariants.{NotDf3, NoCell}
 use Rattle.velocity.specs.Profile.{is_accepted, exist, item_number, of_array}

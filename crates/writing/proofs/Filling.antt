@@ -1,5 +1,5 @@
 -- Data added to a draft piece by piece, and the draft sealed. Assumes nothing.
-use Rattle.std.proofs.Common.{◌≡◌, ℕ, ◌+◌, ◌-◌, ◌^◌, ◌<◌, ◌≤◌, min, true, false, cond, leb, List, [], ◌∷◌, ◌++◌, length, take, drop, Ok, Err, Result, sym, refl, ap, ◌∙◌, ⊎_elim, add-zero, arith, length-append, length-drop, take-append-drop, length-take}
+use Rattle.std.proofs.Common.{◌≡◌, ℕ, ◌+◌, ◌-◌, ◌^◌, ◌<◌, ◌≤◌, min, true, false, leb, List, [], ◌++◌, length, take, drop, Ok, Err, Result, sym, refl, ap, ◌∙◌, ⊎_elim, add-zero, arith, length-append, length-drop, take-append-drop, length-take}
 use Rattle.std.proofs.lemmas.List.{append_assoc, append-nil, take_at, drop_at, drop-drop}
 use Rattle.std.proofs.lemmas.Bool.{and_right, le-leb, lt-leb, cases_lt, cond-true, cond-false}
 use Rattle.framing.specs.Binary.{header_of}

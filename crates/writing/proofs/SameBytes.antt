@@ -1,18 +1,16 @@
 -- An accepted binary frame, written again from its parts, is the same bytes. Assumes nothing.
-use Rattle.std.proofs.Common.{◌≡◌, ℕ, ◌+◌, ◌<◌, ◌≤◌, Bool, true, cond, ◌&&◌, leb, List, [], ◌∷◌, ◌++◌, length, get_or, drop, Ok, Err, Result, sym, refl, ap, ◌∙◌, subst, arith, length-append}
+use Rattle.std.proofs.Common.{◌≡◌, ℕ, ◌+◌, ◌<◌, ◌≤◌, true, cond, List, [], ◌∷◌, ◌++◌, length, get_or, drop, Ok, Err, Result, sym, refl, ap, ◌∙◌, arith, length-append}
 use Rattle.std.proofs.lemmas.List.{append-nil, nil_from_length}
 use Rattle.std.proofs.lemmas.Bool.{le-leb, and_from, cond-true}
 use Rattle.format.specs.declared.format.Part.{Part}
 use Rattle.format.specs.Items.{inside}
 use Rattle.format.specs.Meaning.{size, InOrder, joined_parts}
-use Rattle.framing.specs.declared.verdict.Verdict.TheVariants.{Frame}
-use Rattle.framing.specs.Binary.{binary, header_of, Framed}
-use Rattle.framing.specs.Plan.{judged}
+use Rattle.framing.specs.Binary.{header_of, Framed}
 use Rattle.framing.proofs.BinaryFrames.{exactly_frames}
 use Rattle.writing.specs.declared.again.AgainFault.{AgainFault}
 use Rattle.writing.specs.declared.again.AgainFault.TheVariants.{Outside, Full}
 use Rattle.writing.specs.Drafts.{fits}
-use Rattle.writing.specs.Again.{all_inside, series, frame_of, makes, answer, Rewrites, SameBytes}
+use Rattle.writing.specs.Again.{all_inside, series, frame_of, Rewrites, SameBytes}
 use Rattle.writing.proofs.Adds.{room_for}
 
 -- parts in order lie inside the record

@@ -1,8 +1,7 @@
 -- A header put in front of data makes a frame. Assumes nothing.
-use Rattle.std.proofs.Common.{◌≡◌, ℕ, ◌+◌, ◌-◌, ◌≤◌, true, cond, List, [], ◌∷◌, ◌++◌, length, get_or, take, drop, sym, refl, ap, ◌∙◌, subst, arith, length-append, length-drop, take-append-drop, length-take}
-use Rattle.std.proofs.lemmas.List.{append_assoc, append-nil, take_at, drop-drop}
+use Rattle.std.proofs.Common.{◌≡◌, ℕ, ◌+◌, ◌≤◌, List, ◌++◌, length, get_or, take, drop, sym, ap, ◌∙◌, arith, length-append, take-append-drop}
+use Rattle.std.proofs.lemmas.List.{append_assoc, take_at, drop-drop}
 use Rattle.std.proofs.lemmas.Bool.{le-leb, cond-true}
-use Rattle.framing.specs.declared.verdict.Verdict.TheVariants.{Frame}
 use Rattle.framing.specs.Binary.{binary, header_of}
 use Rattle.framing.specs.Plan.{judged}
 use Rattle.framing.proofs.BinaryFrames.{to_frame}

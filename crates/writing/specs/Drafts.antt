@@ -1,5 +1,5 @@
 -- What a draft holds, and what its calls answer and leave. Assumes nothing.
-use Rattle.std.specs.Prelude.{◌≡◌, ℕ, ◌+◌, ◌≤◌, Bool, cond, ◌&&◌, List, [], ◌++◌, length, take, drop, replicate, Ok, Err, Result, nat_le, slice_index}
+use Rattle.std.specs.Prelude.{◌≡◌, ℕ, ◌+◌, ◌≤◌, Bool, cond, ◌&&◌, List, ◌++◌, length, take, drop, Ok, Err, Result, nat_le, slice_index}
 use Rattle.common.specs.declared.refusal.Refusal.{Refusal}
 use Rattle.framing.specs.declared.verdict.Verdict.TheVariants.{Frame}
 use Rattle.framing.specs.Binary.{binary, header_of}

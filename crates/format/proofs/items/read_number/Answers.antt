@@ -1,4 +1,4 @@
-use Rattle.std.proofs.Common.{◌≡◌, ◌∙◌, arith, w64, SFits, rules}
+use Rattle.std.proofs.Common.{◌∙◌, arith, w64, SFits, rules}
 use Rattle.std.proofs.lemmas.Int.{to_z-of_z}
 use Rattle.format.proofs.Numbers.{value_one, value-two, value-four}
 use Rattle.format.proofs.items.read_number.Goals as goal

@@ -1,6 +1,5 @@
 use Rattle.std.proofs.Common.{◌≡◌, take, sym, refl, subst, arith}
 use Rattle.std.proofs.lemmas.List.{take_more, take_all, length-take-le}
-use Rattle.common.specs.Lists.{room}
 use Rattle.format.specs.Added.{Added}
 use Rattle.format.specs.Meaning.{accepted}
 use Rattle.format.proofs.Additions.{added_more, items_fit, room_for_more, leaves_added}

@@ -1,5 +1,4 @@
-use Rattle.std.proofs.Common.{◌≡◌, ℕ, ◌+◌, ◌-◌, ◌*◌, ◌/◌, ◌%◌, ◌<◌, ◌≤◌, length, get_or, drop, ap, arith, rules}
-use lib.Bits.{bit_or}
+use Rattle.std.proofs.Common.{◌≡◌, ◌+◌, ◌-◌, ◌*◌, ◌<◌, ◌≤◌, length, get_or, drop, ap, arith, rules}
 use Rattle.framing.specs.Checksum.{words, checksum}
 use Rattle.framing.proofs.Sums.{words_more, words_last, words-none, word_is}
 use Rattle.framing.proofs.checksum.word_sum.Goals as goal

@@ -1,7 +1,5 @@
-use Rattle.std.proofs.Common.{◌≡◌, ◌+◌, ◌<◌, min, length, drop, sym, ◌∙◌, arith}
-use Rattle.std.specs.List.{prefix_len}
+use Rattle.std.proofs.Common.{◌+◌, ◌<◌, length, sym, ◌∙◌, arith}
 use Rattle.std.proofs.lemmas.Bool.{eqb-false}
-use Rattle.framing.specs.Sentence.{payload}
 use Rattle.framing.specs.SentencePlan.{near_count, too_many, open_ended, closes}
 use Rattle.framing.proofs.sentence.judge.Goals as goal
 

@@ -1,7 +1,7 @@
-use Rattle.std.proofs.Common.{◌≡◌, ℕ, ◌+◌, ◌-◌, List, [], ◌∷◌, ◌++◌, sym, refl, ap, ◌∙◌, subst, arith}
+use Rattle.std.proofs.Common.{◌+◌, ◌-◌, [], ◌∷◌, sym, refl, subst, arith}
 use Rattle.std.proofs.lemmas.Slice.{pushed}
 use Rattle.reading.specs.Reading.{Comes}
-use Rattle.reading.proofs.Lists.{Upto, Lines, none_yet, no_line, one_more, line_more, listed-all}
+use Rattle.reading.proofs.Lists.{Lines, none_yet, no_line, one_more, line_more, listed-all}
 use Rattle.reading.proofs.listing.list_frames.Goals as goal
 
 pub loop-start-init : goal.loop-start-init

@@ -1,4 +1,4 @@
-use Rattle.std.proofs.Common.{◌≡◌, ◌≤◌, length, get_or, refl, ◌∙◌, subst, arith, take_all}
+use Rattle.std.proofs.Common.{get_or, refl, ◌∙◌, subst, arith, take_all}
 use Rattle.std.proofs.lemmas.List.{get_or_default}
 use Rattle.common.specs.Lists.{items, room}
 use Rattle.stream.specs.declared.runs.Request.TheVariants.{Deliver}

@@ -1,4 +1,4 @@
-use Rattle.std.proofs.Common.{◌≡◌, ◌-◌, ◌≤◌, min, ◌∷◌, ◌++◌, length, take, drop, refl, ap, ◌∙◌, arith}
+use Rattle.std.proofs.Common.{◌≡◌, ◌-◌, min, ◌∷◌, ◌++◌, length, take, drop, refl, ap, arith}
 use Rattle.stream.specs.History.{took}
 use Rattle.stream.specs.Requests.{delivery, taking, close, tell}
 use Rattle.stream.proofs.Feedings.{grows}

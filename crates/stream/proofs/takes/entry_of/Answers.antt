@@ -1,4 +1,4 @@
-use Rattle.std.proofs.Common.{◌<◌, ap, arith}
+use Rattle.std.proofs.Common.{ap, arith}
 use Rattle.stream.proofs.Views.{fault-fits}
 use Rattle.stream.proofs.takes.entry_of.Goals as goal
 

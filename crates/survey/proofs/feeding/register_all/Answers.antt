@@ -1,4 +1,3 @@
-use Rattle.std.proofs.Common.{refl}
 use Rattle.survey.specs.Terms.{survey_verdict, survey_meaning}
 use Rattle.survey.proofs.feeding.register_all.Goals as goal
 

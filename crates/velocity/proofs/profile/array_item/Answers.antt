@@ -1,4 +1,4 @@
-use Rattle.std.proofs.Common.{◌≡◌, ◌<◌, sym, refl, arith}
+use Rattle.std.proofs.Common.{◌<◌, sym, refl, arith}
 use Rattle.velocity.specs.Df3.{included}
 use Rattle.velocity.proofs.Profiles.{item_found}
 use Rattle.velocity.proofs.profile.array_item.Goals as goal

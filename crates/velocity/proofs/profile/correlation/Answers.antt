@@ -1,4 +1,4 @@
-use Rattle.std.proofs.Common.{◌≡◌, ◌+◌, ◌<◌, ◌≤◌, length, get_or, Ok, sym, ap, ◌∙◌, arith}
+use Rattle.std.proofs.Common.{◌≡◌, ◌+◌, ◌<◌, length, get_or, Ok, sym, ap, ◌∙◌, arith}
 use Rattle.velocity.specs.Df3.{correlations, correlation_position}
 use Rattle.velocity.proofs.Profiles.{of_found, of_refused, correlation_low}
 use Rattle.velocity.proofs.profile.correlation.Goals as goal

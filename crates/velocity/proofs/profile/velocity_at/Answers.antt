@@ -1,4 +1,4 @@
-use Rattle.std.proofs.Common.{◌≡◌, ℕ, ◌+◌, ◌*◌, get_or, ℤ, Ok, sym, ap, ◌∙◌, arith, w8, w16, SFits, to_z, of_z, rules}
+use Rattle.std.proofs.Common.{◌≡◌, ℕ, ◌+◌, ◌*◌, get_or, ℤ, Ok, sym, ap, ◌∙◌, arith, w8, w16, SFits, to_z, rules}
 use Rattle.std.proofs.lemmas.Int.{to_z-of_z}
 use Rattle.velocity.specs.declared.profile.Velocity.{Velocity}
 use Rattle.velocity.specs.Layout.{word}

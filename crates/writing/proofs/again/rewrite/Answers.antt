@@ -1,7 +1,7 @@
-use Rattle.std.proofs.Common.{◌≡◌, ℕ, ◌+◌, ◌-◌, ◌^◌, min, true, List, length, Ok, Err, sym, ap, ◌∙◌, subst, zero-add, rules}
+use Rattle.std.proofs.Common.{◌≡◌, ℕ, ◌+◌, ◌-◌, ◌^◌, min, true, List, length, Ok, sym, ap, ◌∙◌, subst, zero-add, rules}
 use Rattle.format.specs.Meaning.{joined_parts}
 use Rattle.writing.specs.declared.again.AgainFault.TheVariants.{Outside}
-use Rattle.writing.specs.Drafts.{content, fits, Seals}
+use Rattle.writing.specs.Drafts.{content, fits}
 use Rattle.writing.specs.Again.{all_inside, series, Rewrites}
 use Rattle.writing.proofs.Filling.{fits_capped, writes}
 use Rattle.writing.proofs.Rewriting.{ok_given, rewrites}

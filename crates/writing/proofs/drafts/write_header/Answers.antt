@@ -1,4 +1,4 @@
-use Rattle.std.proofs.Common.{◌≡◌, ◌+◌, ◌-◌, ◌≤◌, ◌++◌, length, take, drop, refl, ap, ◌∙◌, subst, arith, length-drop, length-take}
+use Rattle.std.proofs.Common.{◌≡◌, ◌+◌, ◌-◌, ◌++◌, length, take, drop, refl, ap, ◌∙◌, subst, arith, length-drop, length-take}
 use Rattle.framing.specs.Binary.{header_of}
 use Rattle.writing.specs.Drafts.{Seals, put_at}
 use Rattle.writing.proofs.Seals.{fronted, seals}

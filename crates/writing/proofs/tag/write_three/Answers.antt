@@ -1,4 +1,4 @@
-use Rattle.std.proofs.Common.{◌≡◌, ℕ, ◌+◌, ◌-◌, ◌^◌, min, true, List, [], ◌∷◌, ◌++◌, length, Ok, sym, ap, ◌∙◌, subst, zero-add, arith, length-append, rules}
+use Rattle.std.proofs.Common.{◌≡◌, ℕ, ◌+◌, ◌-◌, ◌^◌, min, true, List, [], ◌++◌, length, Ok, sym, ap, ◌∙◌, subst, zero-add, arith, length-append, rules}
 use Rattle.std.proofs.lemmas.List.{append-nil}
 use Rattle.writing.specs.Drafts.{content, fits, Writes}
 use Rattle.writing.proofs.Filling.{fits_capped, writes, writes_not, Going, going_start, going_more, going_all}

@@ -1,4 +1,4 @@
-use Rattle.std.proofs.Common.{◌≡◌, ◌<◌, length, sym, length-set, rules}
+use Rattle.std.proofs.Common.{◌<◌, length, sym, length-set, rules}
 use Rattle.std.proofs.lemmas.Bool.{cond-true}
 use Rattle.common.proofs.Pushes.{room_for, push_items, push_table, push_rest}
 use Rattle.common.proofs.list.List.push.Goals as goal

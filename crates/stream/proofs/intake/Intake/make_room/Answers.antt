@@ -1,4 +1,4 @@
-use Rattle.std.proofs.Common.{◌≡◌, ◌-◌, take, drop, ap, ◌∙◌, arith}
+use Rattle.std.proofs.Common.{◌-◌, take, drop, ap, ◌∙◌, arith}
 use Rattle.stream.proofs.Views.{to_front}
 use Rattle.stream.proofs.intake.Intake.make_room.Goals as goal
 

@@ -1,4 +1,4 @@
-use Rattle.std.proofs.Common.{◌≡◌, refl, ap}
+use Rattle.std.proofs.Common.{refl, ap}
 use Rattle.stream.proofs.Views.{off_front}
 use Rattle.stream.proofs.intake.Intake.skip.Goals as goal
 

@@ -1,4 +1,4 @@
-use Rattle.std.proofs.Common.{◌≡◌, length, drop, sym, refl, ◌∙◌}
+use Rattle.std.proofs.Common.{sym, refl, ◌∙◌}
 use Rattle.common.specs.Lists.{items, room}
 use Rattle.stream.specs.View.{view, terms}
 use Rattle.stream.specs.Feeding.{none, more, TakesAll}
