@@ -2,7 +2,7 @@
 use Rattle.std.proofs.Common.{◌≡◌, ℕ, zero, suc, ◌+◌, ◌-◌, ◌*◌, ◌^◌, ◌<◌, ◌≤◌, true, ◌&&◌, eqb, List, [], ◌∷◌, ◌++◌, length, get_or, take, drop, replicate, sym, refl, ap, ◌∙◌, append_assoc, append-nil, mul-suc, arith, length-append, length-drop, take-append-drop, length-take, take-add}
 use lib.ListN.{length-replicate}
 use borrow.Rule.Slice.PartMut.{put_mid}
-use Rattle.std.specs.List.{flat_map, AllByRecursion as All}
+use Rattle.std.specs.List.{flat_map, AllByRecursion}
 use Rattle.std.proofs.ByRecursion.{All-get_or}
 use Rattle.std.proofs.lemmas.List.{take_at, drop_at, drop-drop, take-take, take_all, drop-replicate, replicate-append-replicate}
 use Rattle.std.proofs.lemmas.Bool.{and_parts, and_from, eqb-true, eq-eqb}
@@ -127,7 +127,7 @@ module _ (n : ℕ) (es : List Entry) (few : length es ≤ per_block) where
       ap (part entry_size k) all ∙ part-front entry_size k written (free ++ (tail ++ le 2 sum)) (omega (arith, written_long))
       ∙ part_joined entry_bytes entry_size entry_long (entry_of []) es k less
 
-  pub entries_stand : All Fits es → entries_of (block n es) ≡ es
+  pub entries_stand : AllByRecursion Fits es → entries_of (block n es) ≡ es
   entries_stand fit =
       let d : Entry = entry_of [] in
       ap (λ c. each (λ k. entry_of (part entry_size k (block n es)) ∷ []) c) count_is
@@ -212,7 +212,7 @@ module _ (b : List ℕ) (typed : (i : ℕ) → get_or b i 0 < 256) (long : lengt
         sym (take_all 2 (drop sum_place b) (omega (arith, length-drop sum_place b))) ∙ sym (le-take sum_place 2 b typed (omega arith)) ∙ ap (le 2) (sum ∙ ap checksum (sym front_in)) in
         sym (take-append-drop sum_place b) ∙ ap (λ t. t ++ drop sum_place b) (sym front_in) ∙ ap (λ t. front i es ++ t) last
 
-  pub entries_fit : count_of b ≤ per_block → All Fits (entries_of b)
+  pub entries_fit : count_of b ≤ per_block → AllByRecursion Fits (entries_of b)
   entries_fit few =
       all-each Fits (λ k. entry_of (part entry_size k b) ∷ []) (count_of b)
       (λ k less. (fits-back (part entry_size k b) (typed_take entry_size (drop (entry_size * k) b) (typed_drop b typed (entry_size * k))) (length_part entry_size k b (omega arith)), tt))

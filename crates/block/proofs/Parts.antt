@@ -1,6 +1,6 @@
 -- Lists cut into parts of one length, and lists joined from parts. Assumes nothing.
 use Rattle.std.proofs.Common.{◌≡◌, ℕ, zero, suc, ◌+◌, ◌*◌, ◌<◌, ◌≤◌, List, [], ◌∷◌, ◌++◌, length, get_or, take, drop, sym, refl, ap, ◌∙◌, inl, inr, mul-le-mul_left, mul-zero, mul-suc, arith, length-append, length-drop, length-take, take-add}
-use Rattle.std.specs.List.{flat_map, AllByRecursion as All}
+use Rattle.std.specs.List.{flat_map, AllByRecursion}
 use Rattle.std.proofs.ByRecursion.{All-append}
 use Rattle.std.proofs.lemmas.List.{take-append-le, drop-append-le, drop_at, take_all, take_more, flat_map_more}
 use Rattle.std.proofs.lemmas.Bool.{cases_order}
@@ -72,7 +72,7 @@ module _ {X : Type 0} where
       let on : n + 1 ≡ suc n = omega arith in
       ap (λ t. t ++ (get_or s n d ∷ [])) (each_item s d n (omega arith)) ∙ sym (take_more s n d fits) ∙ ap (λ m. take m s) on
 
-  pub all-each : (P : X → Type 0) (f : ℕ → List X) (n : ℕ) → ((k : ℕ) → k < n → All P (f k)) → All P (each f n)
+  pub all-each : (P : X → Type 0) (f : ℕ → List X) (n : ℕ) → ((k : ℕ) → k < n → AllByRecursion P (f k)) → AllByRecursion P (each f n)
   all-each P f zero each-one = tt
   all-each P f (suc n) each-one = All-append P (each f n) (f n) (all-each P f n (λ k less. each-one k (omega arith))) (each-one n (omega arith))
 

@@ -1,6 +1,6 @@
 -- The blocks of a register give its entries; blocks that are not refused are those of the entries that they give. Assumes nothing.
 use Rattle.std.proofs.Common.{◌≡◌, ℕ, zero, suc, ◌+◌, ◌*◌, ◌%◌, ◌<◌, ◌≤◌, Bool, true, false, eqb, leb, ◌⊎◌, List, length, get_or, drop, Some, None, Ok, Err, Option, sym, refl, ap, ◌∙◌, subst, inl, inr, arith, length-append, length-drop, length-take}
-use Rattle.std.specs.List.{AllByRecursion as All}
+use Rattle.std.specs.List.{AllByRecursion}
 use Rattle.std.proofs.ByRecursion.{All-take, All-drop}
 use Rattle.std.proofs.lemmas.List.{take_all}
 use Rattle.std.proofs.lemmas.Bool.{and_parts, and_from, eqb-true, eqb-false, eq-eqb, ne_eqb, le-leb, leb-true, cases_Bool}
@@ -179,7 +179,7 @@ module _ (bytes : List ℕ) (typed : (i : ℕ) → get_or bytes i 0 < 256) (n : 
       (λ i less. block_in (b i) (b_typed i) (b_long i less) n i (form_at i less) (few-at i less).1 (none_right (λ k. sum_right (part block_size k bytes)) n right.sums i less)
       ∙ ap (block i) (sym (part-each per_block in_block n held-full held-few i less)))
 
-  fit : All Fits all
+  fit : AllByRecursion Fits all
   fit = all-each Fits in_block n (λ i less. entries_fit (b i) (b_typed i) (b_long i less) (few-at i less).1)
 
 -- how many entries there are

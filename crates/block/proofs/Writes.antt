@@ -1,7 +1,7 @@
 -- Entries and blocks written one behind the other. Assumes nothing.
 use Rattle.std.proofs.Common.{◌≡◌, ℕ, ◌+◌, ◌*◌, ◌<◌, ◌≤◌, List, ◌++◌, length, get_or, take, drop, sym, ap, ◌∙◌, subst, add-one, arith, length-take, take-add}
 use borrow.Rule.Slice.PartMut.{put_mid}
-use Rattle.std.specs.List.{flat_map, AllByRecursion as All}
+use Rattle.std.specs.List.{flat_map, AllByRecursion}
 use Rattle.std.proofs.ByRecursion.{All-append}
 use Rattle.std.proofs.lemmas.List.{take_more, take_all, length-take-le}
 use Rattle.register.specs.declared.entry.Entry.{Entry}
@@ -37,10 +37,10 @@ module _ (es : List Entry) (k : ℕ) (before space new : List ℕ) (m : ℕ) whe
       ap (λ t. put_mid (block_size * k) m t new) is-space ∙ put_next block_size k m (blocks k es) before new size long fits ∙ ap (λ t. t ++ drop (block_size * (k + 1)) before) more
 
 -- the entries of one block more fit
-pub fit_more : (es : List Entry) (k : ℕ) → All Fits (take (per_block * k) es) → All Fits (part per_block k es) → All Fits (take (per_block * (k + 1)) es)
+pub fit_more : (es : List Entry) (k : ℕ) → AllByRecursion Fits (take (per_block * k) es) → AllByRecursion Fits (part per_block k es) → AllByRecursion Fits (take (per_block * (k + 1)) es)
 fit_more es k before here =
     let next : per_block * k + per_block ≡ per_block * (k + 1) = omega arith in
-    subst (All Fits) (sym (take-add (per_block * k) per_block es) ∙ ap (λ n. take n es) next) (All-append Fits (take (per_block * k) es) (part per_block k es) before here)
+    subst (AllByRecursion Fits) (sym (take-add (per_block * k) per_block es) ∙ ap (λ n. take n es) next) (All-append Fits (take (per_block * k) es) (part per_block k es) before here)
 
 -- all entries are in their blocks
 pub all_taken : (es : List Entry) (n : ℕ) → needed es ≤ n → take (per_block * n) es ≡ es

@@ -1,6 +1,6 @@
 -- What is promised of blocks, as theorems over the definitions. Assumes nothing.
 use Rattle.std.specs.Prelude.{◌≡◌, ℕ, ◌<◌, ◌≤◌, List, Ok, slice_index}
-use Rattle.std.specs.List.{AllByRecursion as All}
+use Rattle.std.specs.List.{AllByRecursion}
 use Rattle.register.specs.declared.entry.Entry.{Entry}
 use Rattle.block.specs.Entries.{Fits}
 use Rattle.block.specs.Packing.{most_blocks, needed, packed}
@@ -8,7 +8,7 @@ use Rattle.block.specs.Unpacking.{unpacked}
 
 -- the fields of all entries fit, and the entries need no more blocks than a register has
 pub record Register (es : List Entry) : Type 0 where
-  pub fits : All Fits es
+  pub fits : AllByRecursion Fits es
   pub few : needed es ≤ most_blocks
 
 -- Packing and unpacking undo each other. The unpacking of a register's blocks gives its entries; and bytes that are not refused are

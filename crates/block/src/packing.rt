@@ -1,6 +1,6 @@
 // Packing the entries of a register into blocks.
 ghost use Rattle.std.specs.Prelude.{◌≡◌, ◌*◌, ◌≤◌, ◌++◌, length, take, drop, if◌then◌else◌, Ok, Err};
-ghost use Rattle.std.specs.List.{flat_map, AllByRecursion as All};
+ghost use Rattle.std.specs.List.{flat_map, AllByRecursion};
 ghost use Rattle.common.specs.Numbers.{le};
 ghost use Rattle.framing.specs.Checksum.{checksum};
 ghost use Rattle.block.specs.Entries.{entry_size, entry_bytes, Fits};
@@ -40,7 +40,7 @@ impl PackFault {
 fn write_entries(entries: &[Entry], area: &mut [u8])
     requires { entry_size * length entries.now ≤ length area.old }
     ensures writes { area.new ≡ flat_map entry_bytes entries.now ++ drop (entry_size * length entries.now) area.old }
-    ensures fit { All Fits entries.now }
+    ensures fit { AllByRecursion Fits entries.now }
 {
     for (k, entry) in entries.iter().enumerate() {
         let place = ENTRY * k;
@@ -59,7 +59,7 @@ fn sum_bytes(front: &[u8]) -> [u8; 2]
 fn write_block(number: u32, entries: &[Entry], space: &mut [u8])
     requires { (length entries.now ≤ per_block) × (length space.old ≡ block_size) }
     ensures writes { space.new ≡ block number entries.now }
-    ensures fit { All Fits entries.now }
+    ensures fit { AllByRecursion Fits entries.now }
 {
     space.fill(0);
     write_entries(entries, space);
@@ -73,7 +73,7 @@ fn write_block(number: u32, entries: &[Entry], space: &mut [u8])
 fn write_blocks(entries: &[Entry], count: usize, space: &mut [u8])
     requires { (count ≡ needed entries.now) × ((count ≤ most_blocks) × (block_size * count ≤ length space.old)) }
     ensures writes { space.new ≡ blocks count entries.now ++ drop (block_size * count) space.old }
-    ensures fit { All Fits entries.now }
+    ensures fit { AllByRecursion Fits entries.now }
 {
     for i in 0..count {
         let first = PER_BLOCK * i;

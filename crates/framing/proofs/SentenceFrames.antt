@@ -1,7 +1,7 @@
 -- The sentence verdict is a frame exactly when the bytes begin with a sentence. Assumes nothing.
 use Rattle.std.proofs.Common.{◌≡◌, ℕ, ◌+◌, ◌*◌, ◌/◌, ◌%◌, ◌<◌, ◌≤◌, Bool, true, false, cond, ◌&&◌, eqb, ltb, leb, List, [], ◌∷◌, ◌++◌, length, get_or, take, drop, Some, None, fold, Option, sym, refl, ap, ◌∙◌, subst, append_assoc, one-add, arith, length-append, length-drop, take-append-drop, length-take}
 use lib.Bits.{bit_xor}
-use Rattle.std.specs.List.{prefix_len, AllByRecursion as All}
+use Rattle.std.specs.List.{prefix_len, AllByRecursion}
 use Rattle.std.proofs.lemmas.List.{drop_more, get_or-drop, get_or-take}
 use Rattle.std.proofs.lemmas.Nat.{xor_lt}
 use Rattle.std.proofs.lemmas.Bool.{and_parts, and_from, leb-true, le-leb, lt-ltb, le-ltb, ltb-false, eqb-true, eq-eqb, true≢false}
@@ -29,27 +29,27 @@ give_read (Some h) None x e = absurd (true≢false (sym e))
 give_read (Some h) (Some l) x e = (h, l, refl, refl, eqb-true (16 * h + l) x e)
 
 -- the payload in front
-leading_all : (text : List ℕ) (x : ℕ) (rest : List ℕ) → All Payload text → payload x ≡ false → prefix_len payload (text ++ (x ∷ rest)) ≡ length text
+leading_all : (text : List ℕ) (x : ℕ) (rest : List ℕ) → AllByRecursion Payload text → payload x ≡ false → prefix_len payload (text ++ (x ∷ rest)) ≡ length text
 leading_all [] x rest all no_more = ap (λ b. cond b (1 + prefix_len payload rest) 0) no_more
 leading_all (y ∷ text) x rest all no_more =
     ap (λ b. cond b (1 + prefix_len payload (text ++ (x ∷ rest))) 0) all.0 ∙ ap (λ n. 1 + n) (leading_all text x rest all.1 no_more) ∙ omega arith
 
-front-all : (s : List ℕ) → All Payload (take (prefix_len payload s) s)
+front-all : (s : List ℕ) → AllByRecursion Payload (take (prefix_len payload s) s)
 front-all [] = tt
 front-all (y ∷ s) = at (payload y) refl (front-all s)
   where
-    at : (b : Bool) → payload y ≡ b → All Payload (take (prefix_len payload s) s) → All Payload (take (cond b (1 + prefix_len payload s) 0) (y ∷ s))
+    at : (b : Bool) → payload y ≡ b → AllByRecursion Payload (take (prefix_len payload s) s) → AllByRecursion Payload (take (cond b (1 + prefix_len payload s) 0) (y ∷ s))
     at true e more = rw one-add (e, more)
     at false e more = tt
 
-xor_small : (text : List ℕ) (x : ℕ) → x < 128 → All Payload text → fold bit_xor x text < 128
+xor_small : (text : List ℕ) (x : ℕ) → x < 128 → AllByRecursion Payload text → fold bit_xor x text < 128
 xor_small [] x h all = h
 xor_small (y ∷ text) x h all =
     let fits : y ≤ 0x7E = leb-true y 0x7E (and_parts (leb 0x20 y) _ (and_parts (leb 0x20 y && leb y 0x7E) _ all.0).0).1 in
     xor_small text (bit_xor x y) (xor_lt 7 x y h (omega arith)) all.1
 
 -- from a payload to the verdict
-module _ (text rest : List ℕ) (some : 1 ≤ length text) (fits : length text ≤ 506) (all : All Payload text) where
+module _ (text rest : List ℕ) (some : 1 ≤ length text) (fits : length text ≤ 506) (all : AllByRecursion Payload text) where
   abbrev tail : List ℕ
   tail = 42 ∷ (hex_digit (xor_of text / 16) ∷ (hex_digit (xor_of text % 16) ∷ (13 ∷ (10 ∷ rest))))
 

@@ -1,6 +1,6 @@
 -- The sentence framing, kind 2: a line of text between `$` and its checksum. Assumes nothing.
 use Rattle.std.specs.Prelude.{◌≡◌, ℕ, ◌+◌, ◌-◌, ◌*◌, ◌/◌, ◌%◌, ◌≤◌, Bool, true, false, cond, not, ◌&&◌, List, [], ◌∷◌, ◌++◌, length, take, drop, Some, None, fold, Option, ◌==◌, bit_xor, nat_le, nat_lt, slice_index}
-use Rattle.std.specs.List.{AllByRecursion as All}
+use Rattle.std.specs.List.{AllByRecursion}
 use Rattle.framing.specs.declared.verdict.Verdict.{Verdict}
 use Rattle.framing.specs.declared.verdict.Verdict.TheVariants.{Frame}
 use Rattle.framing.specs.Plan.{Plan, frame, await, span, given}
@@ -51,7 +51,7 @@ pub record Framed (s : List ℕ) (n : ℕ) : Type 0 where
   pub rest : List ℕ
   pub some : 1 ≤ length text
   pub fits : length text ≤ 506
-  pub printable : All (λ b. payload b ≡ true) text
+  pub printable : AllByRecursion (λ b. payload b ≡ true) text
   pub begins : s ≡ sentence_of text ++ rest
   pub long : n ≡ length text + 6
 

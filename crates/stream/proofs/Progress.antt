@@ -1,6 +1,6 @@
 -- What a history has brought, and that the reading of all accepted bytes begins so whatever comes behind. Assumes nothing.
 use Rattle.std.proofs.Common.{◌≡◌, ℕ, ◌+◌, ◌≤◌, Bool, true, false, List, [], ◌∷◌, ◌++◌, length, take, sym, refl, ap, ◌∙◌, subst, append_assoc, append-nil, arith, length-append}
-use Rattle.std.specs.List.{AllByRecursion as All}
+use Rattle.std.specs.List.{AllByRecursion}
 use Rattle.std.proofs.lemmas.List.{take_at}
 use Rattle.std.proofs.ByRecursion.{All-weaker, All-append}
 use Rattle.std.proofs.lemmas.List.Sums.{sum_by-append}
@@ -18,7 +18,7 @@ pub record Progress (v : List ℕ → Verdict) (s : List ℕ) (c : Bool) (n p : 
   pub count : length front ≡ n
   pub within : p ≤ length s
   pub inside : framed front ≤ p
-  pub before : All (λ f. f.place + length f.bytes ≤ p) front
+  pub before : AllByRecursion (λ f. f.place + length f.bytes ≤ p) front
   -- whatever comes behind, a reading from p on is the rest of the whole one
   pub joins : (t : List ℕ) (d : Bool) → Grows c t d → (rs : List Found) (e : ℕ) → Reading v d (s ++ t) p rs e → Reading v d (s ++ t) 0 (front ++ rs) e
 
@@ -31,8 +31,8 @@ grows true t d o = absurd (let z : ◌≡◌ {A = ℕ} 0 1 = cc in omega arith)
 grows false t d o = tt
 
 -- the first of some records, which lie from p on, ends where it is behind it
-pub ends-before : (p e : ℕ) (rs : List Found) → p ≤ behind rs e → All (λ f. p ≤ f.place) rs
-    → (p + framed (first rs) ≤ behind rs e) × All (λ f. f.place + length f.bytes ≤ behind rs e) (first rs)
+pub ends-before : (p e : ℕ) (rs : List Found) → p ≤ behind rs e → AllByRecursion (λ f. p ≤ f.place) rs
+    → (p + framed (first rs) ≤ behind rs e) × AllByRecursion (λ f. f.place + length f.bytes ≤ behind rs e) (first rs)
 ends-before p e [] h a = (omega arith, tt)
 ends-before p e (f ∷ rs) h a = (omega (arith, a.0), (omega arith, tt))
 

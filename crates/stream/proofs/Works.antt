@@ -1,6 +1,6 @@
 -- Readings worked on: in a part of the stream, in a longer stream, and behind the first record. Assumes nothing.
 use Rattle.std.proofs.Common.{◌≡◌, ℕ, ◌+◌, ◌-◌, ◌<◌, ◌≤◌, Bool, true, false, List, [], ◌∷◌, ◌++◌, map, length, take, drop, sym, ap, ◌∙◌, subst, inl, inr, append-nil, arith, length-append, length-drop, length-take}
-use Rattle.std.specs.List.{AllByRecursion as All}
+use Rattle.std.specs.List.{AllByRecursion}
 use Rattle.std.proofs.lemmas.List.{drop-drop, drop-append-le, take-append-le}
 use Rattle.std.proofs.ByRecursion.{All-weaker}
 use Rattle.std.proofs.lemmas.Bool.{cases_lt}
@@ -86,7 +86,7 @@ module _ {v : List ℕ → Verdict} {reach : ℕ} (laws : Laws v reach) where
       subst (λ b. Reading v d (s ++ t) p (record { place = p; bytes = b; kind = k } ∷ rs') e') (same_bytes s t p n inside) (takes there w y)
 
   -- the records of a reading lie behind its place, and what lies behind the first is within the stream
-  pub places : {c : Bool} {s : List ℕ} {p e : ℕ} {rs : List Found} → Reading v c s p rs e → All (λ f. p ≤ f.place) rs
+  pub places : {c : Bool} {s : List ℕ} {p e : ℕ} {rs : List Found} → Reading v c s p rs e → AllByRecursion (λ f. p ≤ f.place) rs
   places (ends l) = tt
   places (stops l q o) = tt
   places {p = p} (cuts {rs = rs} l q o r) = All-weaker (λ f. p + 1 ≤ f.place) (λ f. p ≤ f.place) (λ f h. omega arith) rs (places r)

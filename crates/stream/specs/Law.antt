@@ -1,6 +1,6 @@
 -- The law over histories: how every turn is answered, and what the register then lists. Assumes nothing.
 use Rattle.std.specs.Prelude.{◌≡◌, ℕ, ◌+◌, ◌-◌, ◌<◌, ◌≤◌, false, not, List, [], ◌∷◌, ◌++◌, map, length, take, drop, Ok, Err, Result}
-use Rattle.std.specs.List.{AllByRecursion as All}
+use Rattle.std.specs.List.{AllByRecursion}
 use Rattle.register.specs.declared.entry.Entry.{Entry}
 use Rattle.register.specs.declared.entry.Totals.{Totals}
 use Rattle.reading.specs.Reading.{Found}
@@ -53,7 +53,7 @@ Answered t (a ∷ h) = Answered t h × ((p : ℕ) × Reached t h p × Said t h p
 
 -- a byte of the stream lies in no record of a list
 abbrev pub Outside : ℕ → List Found → Type 0
-Outside i rs = All (λ f. f.place ≤ i → i < f.place + length f.bytes → ⊥) rs
+Outside i rs = AllByRecursion (λ f. f.place ≤ i → i < f.place + length f.bytes → ⊥) rs
 
 -- The law of a history that reached place p, with these entries in the register.
 pub record Law (t : Terms) (h : History) (p : ℕ) (es : List Entry) : Type 0 where

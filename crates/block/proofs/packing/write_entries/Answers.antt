@@ -1,5 +1,5 @@
 use Rattle.std.proofs.Common.{◌≡◌, ◌*◌, ◌++◌, length, take, drop, ap, ◌∙◌, subst, arith}
-use Rattle.std.specs.List.{flat_map, AllByRecursion as All}
+use Rattle.std.specs.List.{flat_map, AllByRecursion}
 use Rattle.std.proofs.ByRecursion.{All-more}
 use Rattle.std.proofs.lemmas.List.{take_all}
 use Rattle.block.specs.Entries.{entry_size, entry_bytes, Fits}
@@ -25,5 +25,5 @@ returns c =
     record {
       writes = c.loop-k.invariant.0 ∙ ap (λ t. flat_map entry_bytes t ++ drop (entry_size * k) c.args.area.now) whole
           ∙ ap (λ m. flat_map entry_bytes es ++ drop (entry_size * m) c.args.area.now) end;
-      fit = subst (All Fits) whole c.loop-k.invariant.1;
+      fit = subst (AllByRecursion Fits) whole c.loop-k.invariant.1;
     }
