@@ -11,8 +11,12 @@ import printer
 ROOT = pathlib.Path(__file__).resolve().parent.parent
 
 
+def built(program):
+    return ROOT / 'crates' / program / 'out' / program
+
+
 def run(program, data, *args):
-    return subprocess.run([ROOT / 'target' / 'bin' / program, *args], input=data, capture_output=True, timeout=60)
+    return subprocess.run([built(program), *args], input=data, capture_output=True, timeout=60)
 
 
 def frames_of(b):
@@ -61,7 +65,7 @@ def test_intake_registers_what_the_decoder_finds():
 def test_intake_registers_the_same_of_a_pipe_written_in_pieces():
     rng = random.Random(7)
     for b in streams(12):
-        p = subprocess.Popen([ROOT / 'target' / 'bin' / 'intake'], stdin=subprocess.PIPE, stdout=subprocess.PIPE)
+        p = subprocess.Popen([built('intake')], stdin=subprocess.PIPE, stdout=subprocess.PIPE)
         i = 0
         while i < len(b):
             n = rng.choice([1, 2, 3, 10, 57, 500, 5000])

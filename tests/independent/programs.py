@@ -17,7 +17,7 @@ SENTENCE = d.sentence(b'A')
 
 def run(program, data, *args, **options):
     """The finished process, with its raw standard output and error."""
-    return subprocess.run([str(p.BIN / program), *args], input=data, capture_output=True, timeout=p.LIMIT, **options)
+    return subprocess.run([p.built(program), *args], input=data, capture_output=True, timeout=p.LIMIT, **options)
 
 
 def entries_of(stream):
@@ -57,7 +57,7 @@ def test_programs_end_with_0_and_no_words_on_an_empty_stream():
 def test_programs_fail_where_standard_input_cannot_be_read():
     directory = os.open('/', os.O_RDONLY)
     for program in READERS:
-        r = subprocess.run([str(p.BIN / program)], stdin=directory, capture_output=True, timeout=p.LIMIT)
+        r = subprocess.run([p.built(program)], stdin=directory, capture_output=True, timeout=p.LIMIT)
         assert r.returncode == 1 and r.stderr, program
     os.close(directory)
 
@@ -66,7 +66,7 @@ def test_programs_fail_where_standard_output_cannot_be_written():
     blocks = d.packed(entries_of(SENTENCE))
     for program in READERS:
         with open('/dev/full', 'wb') as full:
-            r = subprocess.run([str(p.BIN / program)], input=blocks if program == 'unpack' else SENTENCE, stdout=full,
+            r = subprocess.run([p.built(program)], input=blocks if program == 'unpack' else SENTENCE, stdout=full,
                                stderr=subprocess.PIPE, timeout=p.LIMIT)
         assert r.returncode == 1 and r.stderr, program
 
@@ -117,14 +117,14 @@ def test_unpack_tells_a_refusal_with_number_place_and_meaning():
 
 def test_unpack_reads_no_more_than_a_register_can_have():
     with open('/dev/zero', 'rb') as endless:
-        r = subprocess.run([str(p.BIN / 'unpack')], stdin=endless, capture_output=True, timeout=p.LIMIT)
+        r = subprocess.run([p.built('unpack')], stdin=endless, capture_output=True, timeout=p.LIMIT)
     assert r.returncode == 1 and not r.stdout and r.stderr.startswith(b'refused, 28, place 0: '), r
 
 
 def test_pack_and_unpack_in_a_pipe_print_the_entries_of_intake():
     stream = d.tag(b'a') + b'\xA5' + SENTENCE * 70 + d.binary_frame(0x15, b'')
-    packing = subprocess.Popen([str(p.BIN / 'pack')], stdin=subprocess.PIPE, stdout=subprocess.PIPE)
-    unpacking = subprocess.Popen([str(p.BIN / 'unpack')], stdin=packing.stdout, stdout=subprocess.PIPE)
+    packing = subprocess.Popen([p.built('pack')], stdin=subprocess.PIPE, stdout=subprocess.PIPE)
+    unpacking = subprocess.Popen([p.built('unpack')], stdin=packing.stdout, stdout=subprocess.PIPE)
     packing.stdout.close()
     packing.stdin.write(stream)
     packing.stdin.close()

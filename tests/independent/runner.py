@@ -10,10 +10,14 @@ import termios
 import time
 from collections import namedtuple
 
-BIN = pathlib.Path(__file__).resolve().parents[2] / 'target' / 'bin'
+CRATES = pathlib.Path(__file__).resolve().parents[2] / 'crates'
 LIMIT = 60  # seconds
 
 Answer = namedtuple('Answer', 'status output told')
+
+
+def built(program):
+    return str(CRATES / program / 'out' / program)
 
 
 def told(error):
@@ -26,7 +30,7 @@ def told(error):
 
 def run(program, data, *args):
     """The answer of a program to data that stand ready on its standard input."""
-    done = subprocess.run([str(BIN / program), *args], input=data, capture_output=True, timeout=LIMIT)
+    done = subprocess.run([built(program), *args], input=data, capture_output=True, timeout=LIMIT)
     return Answer(done.returncode, done.stdout, told(done.stderr))
 
 
@@ -48,7 +52,7 @@ def wait_until_read(process):
 def run_pieces(program, pieces):
     """The answer of a program to data that come through a pipe piece by piece."""
     with tempfile.TemporaryFile() as output, tempfile.TemporaryFile() as error:
-        process = subprocess.Popen([str(BIN / program)], stdin=subprocess.PIPE, stdout=output, stderr=error, bufsize=0)
+        process = subprocess.Popen([built(program)], stdin=subprocess.PIPE, stdout=output, stderr=error, bufsize=0)
         try:
             for piece in pieces:
                 process.stdin.write(piece)
