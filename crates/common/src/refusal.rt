@@ -1,6 +1,6 @@
 // Refusals, as every layer tells them.
 
-// A refusal: its number, the layer that refuses (1 intake, 2 format, 3 writer of lines, 4 blocks), and a place, 0 where none is named.
+// A refusal: its number, the layer that refuses (1 intake, 2 format, 3 writer of frames and lines, 4 blocks), and a place, 0 where none is named.
 #[derive(Clone, Copy, PartialEq, Eq, Debug)]
 pub struct Refusal {
     pub number: u16,
