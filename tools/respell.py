@@ -57,12 +57,12 @@ def respelled(name, is_definition, definitions):
         return head + ''.join(w[:1].upper() + w[1:] for w in rest)
     if is_definition:
         return name.replace('-', '_')
-    out = parts = name.split('-')
+    parts = name.split('-')
     for i in range(1, len(parts)):
         left, right = '-'.join(parts[:i]), '-'.join(parts[i:])
         if left in definitions and right in definitions:
             return left.replace('-', '_') + '-' + right.replace('-', '_')
-    return '_'.join(out)
+    return '_'.join(parts)
 
 
 def main():
@@ -80,7 +80,7 @@ def main():
         print(a, '->', b, '(falls together?)' if b in words else '')
     for b in sorted({b for b in new.values() if list(new.values()).count(b) > 1}):
         print('one name for two:', b, file=sys.stderr)
-    pattern = re.compile('(?<!' + CHARS[1:-1].join('[]') + ')(' + '|'.join(map(re.escape, sorted(new, key=len, reverse=True))) + ')(?!' + CHARS + ')')
+    pattern = re.compile('(?<!' + CHARS + ')(' + '|'.join(map(re.escape, sorted(new, key=len, reverse=True))) + ')(?!' + CHARS + ')')
     for path, text in texts.items():
         changed = pattern.sub(lambda m: new[m.group(1)], text)
         if changed != text:
