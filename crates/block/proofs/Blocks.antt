@@ -1,10 +1,12 @@
 -- A block that was written is right and gives its entries; a block that is right is the one that is written of its entries. Assumes nothing.
-use Rattle.std.proofs.Common.{◌≡◌, ℕ, zero, suc, ◌+◌, ◌-◌, ◌*◌, ◌^◌, ◌<◌, ◌≤◌, true, ◌&&◌, eqb, List, [], ◌∷◌, ◌++◌, length, get_or, take, drop, replicate, sym, refl, ap, ◌∙◌, append_assoc, append-nil, mul-suc, arith, length-append, length-drop, take-append-drop, length-take, take-add}
+use Rattle.std.proofs.Common.{◌≡◌, ℕ, zero, suc, ◌+◌, ◌-◌, ◌*◌, ◌^◌, ◌<◌, ◌≤◌, true, ◌&&◌, eqb, List, [], ◌∷◌, ◌++◌, length, get_or, take, drop, replicate, sym, refl, ap, ◌∙◌, subst, append_assoc, append-nil, mul-suc, arith, length-append, length-drop, take-append-drop, length-take, take-add}
 use lib.ListN.{length-replicate}
 use borrow.Rule.Slice.PartMut.{put_mid}
-use Rattle.std.specs.List.{flat_map, AllByRecursion}
+use Rattle.std.specs.List.{flat_map, sum_by, AllByRecursion}
+use Rattle.std.specs.Simd.{first_chunks}
 use Rattle.std.proofs.ByRecursion.{All-get_or}
-use Rattle.std.proofs.lemmas.List.{take_at, drop_at, drop-drop, take-take, take_all, drop-replicate, replicate-append-replicate}
+use Rattle.std.proofs.lemmas.List.{take_at, drop_at, drop-drop, take-take, length-map, take_all, drop-replicate, replicate-append-replicate}
+use Rattle.std.proofs.lemmas.List.Sums.{sum_by-cons}
 use Rattle.std.proofs.lemmas.Bool.{and_parts, and_from, eqb-true, eq-eqb}
 use Rattle.common.specs.Numbers.{number, le}
 use Rattle.common.proofs.Numbers.{number-le, typed_take, typed_drop}
@@ -13,7 +15,7 @@ use Rattle.register.specs.declared.entry.Entry.{Entry}
 use Rattle.block.specs.Parts.{part, each, all_zero}
 use Rattle.block.specs.Entries.{entry_size, entry_bytes, entry_of, Fits}
 use Rattle.block.specs.Blocks.{block_size, entries_end, number_place, per_block, sum_place, zeros_place, front, block, count_of, number_of, sum_of, entries_of, sum_right, count_right, free_right, form_right}
-use Rattle.block.proofs.Parts.{each_same, each_item, part-front, part_joined, length_joined, length-each, length_part, joined_push, all-each}
+use Rattle.block.proofs.Parts.{each_same, each_item, part-front, part_joined, length_joined, length_part, joined_push, all-each, pieces_mapped, length_pieces}
 use Rattle.block.proofs.Questions.{zeros_zero, zero_is}
 use Rattle.block.proofs.Cuts.{cut_take, put_at, le-take}
 use Rattle.block.proofs.Codec.{entry_long, entry_back, bytes_back, fits-back}
@@ -21,6 +23,17 @@ use Rattle.block.proofs.Codec.{entry_long, entry_back, bytes_back, fits-back}
 pub checksum_below : (s : List ℕ) → checksum s < 65536
 unfolding checksum
 checksum_below s = omega arith
+
+-- the entries of a block, one by one
+pub entries_are : (b : List ℕ) → entries_of b ≡ each (λ k. entry_of (part entry_size k b) ∷ []) (count_of b)
+entries_are b = pieces_mapped entry_size entry_of (count_of b) b
+
+pub count_long : (b : List ℕ) → length (entries_of b) ≡ count_of b
+count_long b = length-map (first_chunks entry_size (count_of b) b) entry_of ∙ length_pieces entry_size (count_of b) b
+
+pub entries_count : (bs : List (List ℕ)) → length (flat_map entries_of bs) ≡ sum_by count_of bs
+entries_count [] = refl
+entries_count (b ∷ bs) = omega (arith, length-append (entries_of b) (flat_map entries_of bs), count_long b, entries_count bs, sum_by-cons count_of b bs)
 
 -- a block that was written
 module _ (n : ℕ) (es : List Entry) (few : length es ≤ per_block) where
@@ -130,7 +143,7 @@ module _ (n : ℕ) (es : List Entry) (few : length es ≤ per_block) where
   pub entries_stand : AllByRecursion Fits es → entries_of (block n es) ≡ es
   entries_stand fit =
       let d : Entry = entry_of [] in
-      ap (λ c. each (λ k. entry_of (part entry_size k (block n es)) ∷ []) c) count_is
+      entries_are (block n es) ∙ ap (λ c. each (λ k. entry_of (part entry_size k (block n es)) ∷ []) c) count_is
       ∙ each_same (λ k. entry_of (part entry_size k (block n es)) ∷ []) (λ k. get_or es k d ∷ []) (length es)
       (λ k less. ap (λ s. entry_of s ∷ []) (entry_at k less) ∙ ap (λ e. e ∷ []) (entry_back (get_or es k d) (All-get_or Fits es k d less fit)))
       ∙ each_item es d (length es) (omega arith) ∙ take_all (length es) es (omega arith)
@@ -164,9 +177,6 @@ module _ (b : List ℕ) (typed : (i : ℕ) → get_or b i 0 < 256) (long : lengt
       ∙ ap (λ t. take (entry_size * n) b ++ t) (bytes_back (part entry_size n b) (typed_take entry_size (drop (entry_size * n) b) (typed_drop b typed (entry_size * n))) there)
       ∙ sym (take-add (entry_size * n) entry_size b) ∙ ap (λ m. take m b) (sym (mul-suc entry_size n))
 
-  pub count_long : length (entries_of b) ≡ count_of b
-  count_long = length-each 1 (λ k. entry_of (part entry_size k b) ∷ []) (count_of b) (λ k _. refl) ∙ omega arith
-
   module _ (m i : ℕ) (form : form_right m i b ≡ true) (few : count_of b ≤ per_block) where
     abbrev es : List Entry
     es = entries_of b
@@ -184,18 +194,18 @@ module _ (b : List ℕ) (typed : (i : ℕ) → get_or b i 0 < 256) (long : lengt
 
     free_in : replicate (entry_size * (per_block - length es)) 0 ≡ space
     free_in =
-        let size : length space ≡ entry_size * (per_block - length es) = simp (length-drop, length-take) (omega (arith, count_long)) in
+        let size : length space ≡ entry_size * (per_block - length es) = simp (length-drop, length-take) (omega (arith, count_long b)) in
         sym (zero_is space (form_parts m i b form).3 ∙ ap (λ n. replicate n 0) size)
 
     area_in : flat_map entry_bytes es ++ replicate (entry_size * (per_block - length es)) 0 ≡ take entries_end b
     area_in =
-        ap (λ t. flat_map entry_bytes es ++ t) free_in ∙ ap (λ t. t ++ space) (front-back (count_of b) (omega arith))
+        ap (λ t. flat_map entry_bytes es ++ t) free_in ∙ ap (λ t. t ++ space) (ap (flat_map entry_bytes) (entries_are b) ∙ front-back (count_of b) (omega arith))
         ∙ ap (λ t. t ++ space) (sym (take-take (entry_size * count_of b) entries_end b (omega arith))) ∙ take-append-drop (entry_size * count_of b) (take entries_end b)
 
     pub front_in : front i es ≡ take sum_place b
     unfolding front
     front_in =
-        let count : le 2 (length es) ≡ take 2 (drop entries_end b) = ap (le 2) count_long ∙ le-take entries_end 2 b typed (omega arith) in
+        let count : le 2 (length es) ≡ take 2 (drop entries_end b) = ap (le 2) (count_long b) ∙ le-take entries_end 2 b typed (omega arith) in
         let named : le 4 i ≡ take 4 (drop number_place b) = ap (le 4) (sym numbered) ∙ le-take number_place 4 b typed (omega arith) in
         sym (append_assoc (flat_map entry_bytes es) (replicate (entry_size * (per_block - length es)) 0) (le 2 (length es) ++ (le 4 i ++ replicate 8 0)))
         ∙ ap (λ t. t ++ (le 2 (length es) ++ (le 4 i ++ replicate 8 0))) area_in
@@ -214,5 +224,5 @@ module _ (b : List ℕ) (typed : (i : ℕ) → get_or b i 0 < 256) (long : lengt
 
   pub entries_fit : count_of b ≤ per_block → AllByRecursion Fits (entries_of b)
   entries_fit few =
-      all-each Fits (λ k. entry_of (part entry_size k b) ∷ []) (count_of b)
-      (λ k less. (fits-back (part entry_size k b) (typed_take entry_size (drop (entry_size * k) b) (typed_drop b typed (entry_size * k))) (length_part entry_size k b (omega arith)), tt))
+      subst (AllByRecursion Fits) (sym (entries_are b)) (all-each Fits (λ k. entry_of (part entry_size k b) ∷ []) (count_of b)
+      (λ k less. (fits-back (part entry_size k b) (typed_take entry_size (drop (entry_size * k) b) (typed_drop b typed (entry_size * k))) (length_part entry_size k b (omega arith)), tt)))

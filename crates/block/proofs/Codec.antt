@@ -24,6 +24,10 @@ le_eight x = ap (λ t. x % 256 ∷ t) (sym (from_is 7 x 256))
 pub le_four : (x : ℕ) → x % 256 ∷ from_place 3 x 256 ≡ le 4 x
 le_four x = ap (λ t. x % 256 ∷ t) (sym (from_is 3 x 256))
 
+ap₆ : {A B C D E F R : Type 0} (make : A → B → C → D → E → F → R) {a a' : A} {b b' : B} {c c' : C} {d d' : D} {e e' : E} {f f' : F}
+    → a ≡ a' → b ≡ b' → c ≡ c' → d ≡ d' → e ≡ e' → f ≡ f' → make a b c d e f ≡ make a' b' c' d' e' f'
+ap₆ make p q r s t u = rw (p, q, r, s, t, u)
+
 -- an entry's bytes, item by item of the fields' bytes
 abbrev pub sixteen : List ℕ → List ℕ → ℕ → ℕ → List ℕ → List ℕ → List ℕ
 sixteen p l k s v f =
@@ -34,12 +38,9 @@ pub sixteen_is : (place len kind series verdict fault : ℕ) (p l v f : List ℕ
     → kind < 256 → series < 256 → sixteen p l kind series v f ≡ field_bytes place len kind series verdict fault
 unfolding field_bytes
 sixteen_is place len kind series verdict fault p l v f ep el ev ef k s =
-    let is-kind : kind ≡ kind % 256 = omega arith in
-    let is-series : series ≡ series % 256 = omega arith in
-    ap (λ x. sixteen x l kind series v f) ep ∙ ap (λ x. sixteen (le 8 place) x kind series v f) el
-    ∙ ap (λ x. sixteen (le 8 place) (le 2 len) x series v f) is-kind ∙ ap (λ x. sixteen (le 8 place) (le 2 len) (kind % 256) x v f) is-series
-    ∙ ap (λ x. sixteen (le 8 place) (le 2 len) (kind % 256) (series % 256) x f) ev
-    ∙ ap (λ x. sixteen (le 8 place) (le 2 len) (kind % 256) (series % 256) (le 2 verdict) x) ef
+    let is-kind : kind % 256 ≡ kind = omega arith in
+    let is-series : series % 256 ≡ series = omega arith in
+    rw (ep, el, ev, ef, is-kind, is-series)
 
 pub entry_long : (e : Entry) → length (entry_bytes e) ≡ entry_size
 unfolding field_bytes
@@ -59,12 +60,7 @@ entry_back e h =
     let s : e.series % 256 ≡ e.series = omega arith in
     let v : number (le 2 e.verdict) ≡ e.verdict = number-le 2 e.verdict h.verdict in
     let f : number (le 2 e.fault) ≡ e.fault = number-le 2 e.fault h.fault in
-    ap (λ x. made x (number (le 2 e.len)) (e.kind % 256) (e.series % 256) (number (le 2 e.verdict)) (number (le 2 e.fault))) p
-    ∙ ap (λ x. made e.place x (e.kind % 256) (e.series % 256) (number (le 2 e.verdict)) (number (le 2 e.fault))) l
-    ∙ ap (λ x. made e.place e.len x (e.series % 256) (number (le 2 e.verdict)) (number (le 2 e.fault))) k
-    ∙ ap (λ x. made e.place e.len e.kind x (number (le 2 e.verdict)) (number (le 2 e.fault))) s
-    ∙ ap (λ x. made e.place e.len e.kind e.series x (number (le 2 e.fault))) v
-    ∙ ap (λ x. made e.place e.len e.kind e.series e.verdict x) f
+    ap₆ made p l k s v f
 
 module _ (s : List ℕ) (typed : (i : ℕ) → get_or s i 0 < 256) (long : length s ≡ entry_size) where
   one_byte : (at : ℕ) → at < entry_size → number (take 1 (drop at s)) ≡ get_or s at 0
@@ -80,13 +76,9 @@ module _ (s : List ℕ) (typed : (i : ℕ) → get_or s i 0 < 256) (long : lengt
       let v = le-take 12 2 s typed (omega arith) in
       let f = le-take 14 2 s typed (omega arith) in
       let last : drop 14 s ≡ take 2 (drop 14 s) = cut 14 2 s ∙ ap (λ t. take 2 (drop 14 s) ++ t) (drop_all entry_size s (omega arith)) ∙ append-nil _ in
-      sym (cut 0 8 s ∙ ap (λ t. take 8 s ++ t) (cut 8 2 s ∙ ap (λ t. take 2 (drop 8 s) ++ t) (cut 10 1 s
-      ∙ ap (λ t. take 1 (drop 10 s) ++ t) (cut 11 1 s ∙ ap (λ t. take 1 (drop 11 s) ++ t) (cut 12 2 s ∙ ap (λ t. take 2 (drop 12 s) ++ t) (last ∙ sym f)
-      ∙ ap (λ t. t ++ le 2 (number (take 2 (drop 14 s)))) (sym v))
-      ∙ ap (λ t. t ++ (le 2 (number (take 2 (drop 12 s))) ++ le 2 (number (take 2 (drop 14 s))))) (sym r))
-      ∙ ap (λ t. t ++ (le 1 (get_or s 11 0) ++ (le 2 (number (take 2 (drop 12 s))) ++ le 2 (number (take 2 (drop 14 s)))))) (sym k))
-      ∙ ap (λ t. t ++ (le 1 (get_or s 10 0) ++ (le 1 (get_or s 11 0) ++ (le 2 (number (take 2 (drop 12 s))) ++ le 2 (number (take 2 (drop 14 s))))))) (sym l))
-      ∙ ap (λ t. t ++ (le 2 (number (take 2 (drop 8 s))) ++ (le 1 (get_or s 10 0) ++ (le 1 (get_or s 11 0) ++ (le 2 (number (take 2 (drop 12 s))) ++ le 2 (number (take 2 (drop 14 s)))))))) (sym p))
+      ap₆ (λ a b c d e g. a ++ (b ++ (c ++ (d ++ (e ++ g))))) p l k r v (f ∙ sym last)
+      ∙ sym (cut 0 8 s ∙ ap (λ t. take 8 s ++ t) (cut 8 2 s ∙ ap (λ t. take 2 (drop 8 s) ++ t) (cut 10 1 s ∙ ap (λ t. take 1 (drop 10 s) ++ t) (cut 11 1 s
+      ∙ ap (λ t. take 1 (drop 11 s) ++ t) (cut 12 2 s)))))
 
   pub fits-back : Fits (entry_of s)
   fits-back = record {

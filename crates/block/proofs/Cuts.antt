@@ -1,8 +1,7 @@
 -- Lists cut at places, and parts of lists written over. Assumes nothing.
-use Rattle.std.proofs.Common.{◌≡◌, ℕ, ◌+◌, ◌-◌, ◌*◌, ◌^◌, ◌<◌, ◌≤◌, min, List, ◌++◌, length, get_or, take, drop, sym, ap, ◌∙◌, subst, inl, inr, append_assoc, mul-suc, add-one, arith, length-drop, take-append-drop, take-add}
+use Rattle.std.proofs.Common.{◌≡◌, ℕ, ◌+◌, ◌*◌, ◌^◌, ◌<◌, ◌≤◌, List, ◌++◌, length, get_or, take, drop, sym, ap, ◌∙◌, subst, append_assoc, mul-suc, add-one, arith, length-drop, take-append-drop, take-add}
 use borrow.Rule.Slice.PartMut.{put_mid}
-use Rattle.std.proofs.lemmas.List.{drop-drop, drop_at, take_at, take_all, length-take-le}
-use Rattle.std.proofs.lemmas.Bool.{cases_lt}
+use Rattle.std.proofs.lemmas.List.{drop-drop, drop_at, take_at, length-take-le}
 use Rattle.common.specs.Numbers.{number, le}
 use Rattle.common.proofs.Numbers.{le-number, number_below, typed_take, typed_drop}
 
@@ -29,16 +28,6 @@ put_next w k m p before new size long fits =
     ap (λ t. put_mid (w * k) m (p ++ t) new) (cut (w * k) m before)
     ∙ put_at (w * k) m p (take m rest) (drop (w * k + m) before) new long wide
     ∙ ap (λ i. p ++ (new ++ drop i before)) next ∙ sym (append_assoc p new (drop (w * (k + 1)) before))
-
--- a part that ends where the list does, or where the part is whole
-pub least-part : {X : Type 0} (w first end : ℕ) (s : List X) → end ≡ min (length s) (first + w) → take (end - first) (drop first s) ≡ take w (drop first s)
-least-part w first end s is =
-    elim (cases_lt (length s) (first + w)) [
-      | inl short ↦
-          let size = length-drop first s in
-          take_all (end - first) (drop first s) (omega arith) ∙ sym (take_all w (drop first s) (omega arith))
-      | inr long ↦ let whole : end - first ≡ w = omega arith in ap (λ n. take n (drop first s)) whole
-    ]
 
 -- the bytes of the number that n bytes are
 pub le-take : (a n : ℕ) (s : List ℕ) → ((i : ℕ) → get_or s i 0 < 256) → a + n ≤ length s → le n (number (take n (drop a s))) ≡ take n (drop a s)

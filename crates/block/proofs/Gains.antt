@@ -1,20 +1,25 @@
--- Entries put behind those of a list, one by one and block by block. Assumes nothing.
-use Rattle.std.proofs.Common.{◌≡◌, ℕ, ◌+◌, ◌<◌, ◌≤◌, List, ◌++◌, length, sym, ap, ◌∙◌, subst, add-one, arith, length-append}
+-- Entries put behind those of a list, item by item of another list. Assumes nothing.
+use Rattle.std.proofs.Common.{◌≡◌, ℕ, ◌+◌, ◌<◌, ◌≤◌, List, ◌++◌, length, get_or, take, sym, ap, ◌∙◌, subst, arith, length-append}
+use Rattle.std.specs.List.{flat_map}
+use Rattle.std.proofs.lemmas.List.{take_more}
+use Rattle.std.proofs.lemmas.List.Folds.{length-flat_map-take}
 use Rattle.common.specs.declared.list.List.{List as ListedIn}
 use Rattle.common.specs.Lists.{items, room}
 use Rattle.common.specs.Added.{Added}
 use Rattle.common.proofs.Additions.{added_more}
 use Rattle.register.specs.declared.entry.Entry.{Entry}
-use Rattle.block.specs.Parts.{each}
-use Rattle.block.proofs.Parts.{each_grows}
+use Rattle.block.proofs.Parts.{joined_push}
 
-module _ (a b : ListedIn Entry) (f : ℕ → List Entry) (k : ℕ) (before : Added a (each f k) b) where
+module _ {X : Type 0} (a b : ListedIn Entry) (f : X → List Entry) (xs : List X) (k : ℕ) (d : X) (less : k < length xs)
+    (before : Added a (flat_map f (take k xs)) b) where
   -- one step more
-  pub added_step : (c : ListedIn Entry) (xs : List Entry) → xs ≡ f k → Added b xs c → Added a (each f (k + 1)) c
-  added_step c xs is here =
-      subst (λ ys. Added a ys c) (ap (λ s. each f k ++ s) is ∙ ap (each f) (sym (add-one k))) (added_more a b c (each f k) xs before here)
+  pub added_step : (c : ListedIn Entry) (ys : List Entry) → ys ≡ f (get_or xs k d) → Added b ys c → Added a (flat_map f (take (k + 1) xs)) c
+  added_step c ys is here =
+      subst (λ es. Added a es c)
+      (ap (λ s. flat_map f (take k xs) ++ s) is ∙ sym (joined_push f (take k xs) (get_or xs k d)) ∙ ap (flat_map f) (sym (take_more xs k d less)))
+      (added_more a b c (flat_map f (take k xs)) ys before here)
 
   -- there is room for what the step adds, where there is room for all
-  pub step_fits : (n : ℕ) → k < n → length (items a) + length (each f n) ≤ room a → length (items b) + length (f k) ≤ room b
-  step_fits n less fits =
-      omega (arith, each_grows f n k less, ap length before.holds ∙ length-append (items a) (each f k), before.same_room)
+  pub step_fits : length (items a) + length (flat_map f xs) ≤ room a → length (items b) + length (f (get_or xs k d)) ≤ room b
+  step_fits fits =
+      omega (arith, length-flat_map-take f xs k d less, ap length before.holds ∙ length-append (items a) (flat_map f (take k xs)), before.same_room)

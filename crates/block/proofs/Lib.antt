@@ -4,6 +4,5 @@ pub mod Cuts
 pub mod Codec
 pub mod Blocks
 pub mod Registers
-pub mod Readings
 pub mod Writes
 pub mod Gains

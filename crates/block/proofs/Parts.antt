@@ -1,8 +1,10 @@
 -- Lists cut into parts of one length, and lists joined from parts. Assumes nothing.
-use Rattle.std.proofs.Common.{◌≡◌, ℕ, zero, suc, ◌+◌, ◌*◌, ◌<◌, ◌≤◌, List, [], ◌∷◌, ◌++◌, length, get_or, take, drop, sym, refl, ap, ◌∙◌, inl, inr, mul-le-mul_left, mul-zero, mul-suc, arith, length-append, length-drop, length-take, take-add}
+use Rattle.std.proofs.Common.{◌≡◌, ℕ, zero, suc, ◌+◌, ◌*◌, ◌<◌, ◌≤◌, List, [], ◌∷◌, ◌++◌, length, map, get_or, take, drop, sym, refl, ap, ◌∙◌, inl, inr, mul-le-mul_left, mul-zero, mul-suc, arith, length-append, length-drop, length-take, take-add}
 use Rattle.std.specs.List.{flat_map, AllByRecursion}
 use Rattle.std.proofs.ByRecursion.{All-append}
-use Rattle.std.proofs.lemmas.List.{take-append-le, drop-append-le, drop_at, take_all, take_more, flat_map_more}
+use Rattle.std.proofs.lemmas.List.{take-append-le, drop-append-le, drop_at, take_all, take_more, flat_map_more, drop-drop}
+use Rattle.std.proofs.lemmas.List.Concat.{flat_map_single}
+use Rattle.std.specs.Simd.{first_chunks}
 use Rattle.std.proofs.lemmas.Bool.{cases_order}
 use Rattle.block.specs.Parts.{part, each}
 
@@ -65,6 +67,29 @@ module _ {X : Type 0} where
   pub length_part : (w k : ℕ) (s : List X) → w * k + w ≤ length s → length (part w k s) ≡ w
   length_part w k s fits = simp (length-take, length-drop) (omega arith)
 
+  -- the pieces that a list is cut into are its parts
+  part_next : (w k : ℕ) (s : List X) → part w k (drop w s) ≡ part w (suc k) s
+  part_next w k s = ap (take w) (drop-drop (w * k) w s ∙ ap (λ m. drop m s) (omega (arith, mul-suc w k)))
+
+  pub length_pieces : (w n : ℕ) (s : List X) → length (first_chunks w n s) ≡ n
+  length_pieces w zero s = refl
+  length_pieces w (suc n) s = ap suc (length_pieces w n (drop w s))
+
+  pub piece_at : (w n : ℕ) (s : List X) (k : ℕ) (d : List X) → k < n → get_or (first_chunks w n s) k d ≡ part w k s
+  piece_at w zero s k d less = absurd (omega arith)
+  piece_at w (suc n) s zero d less = ap (λ m. take w (drop m s)) (sym (mul-zero w))
+  piece_at w (suc n) s (suc k) d less = piece_at w n (drop w s) k d (omega arith) ∙ part_next w k s
+
+  pub take-pieces : (w n : ℕ) (s : List X) (k : ℕ) → k ≤ n → take k (first_chunks w n s) ≡ first_chunks w k s
+  take-pieces w n s zero fits = refl
+  take-pieces w zero s (suc k) fits = absurd (omega arith)
+  take-pieces w (suc n) s (suc k) fits = ap (λ t. take w s ∷ t) (take-pieces w n (drop w s) k (omega arith))
+
+  piece_more : (w n : ℕ) (s : List X) → first_chunks w (suc n) s ≡ first_chunks w n s ++ (part w n s ∷ [])
+  piece_more w zero s = ap (λ m. take w (drop m s) ∷ []) (sym (mul-zero w))
+  piece_more w (suc n) s =
+      ap (λ t. take w s ∷ t) (piece_more w n (drop w s)) ∙ ap (λ t. take w s ∷ (first_chunks w n (drop w s) ++ (t ∷ []))) (part_next w n s)
+
   -- the items of a list, joined one by one
   pub each_item : (s : List X) (d : X) (n : ℕ) → n ≤ length s → each (λ k. get_or s k d ∷ []) n ≡ take n s
   each_item s d zero fits = refl
@@ -79,7 +104,18 @@ module _ {X : Type 0} where
 module _ {X Y : Type 0} (f : X → List Y) where
   pub joined_push : (xs : List X) (x : X) → flat_map f (xs ++ (x ∷ [])) ≡ flat_map f xs ++ f x
   joined_push xs x = sym (flat_map_more f [] xs x)
+  -- what is joined of a list's pieces
 
+module _ {X Y : Type 0} (w : ℕ) where
+  pub pieces_joined : (f : List X → List Y) (n : ℕ) (s : List X) → flat_map f (first_chunks w n s) ≡ each (λ k. f (part w k s)) n
+  pieces_joined f zero s = refl
+  pieces_joined f (suc n) s =
+      ap (flat_map f) (piece_more w n s) ∙ joined_push f (first_chunks w n s) (part w n s) ∙ ap (λ t. t ++ f (part w n s)) (pieces_joined f n s)
+
+  pub pieces_mapped : (f : List X → Y) (n : ℕ) (s : List X) → map f (first_chunks w n s) ≡ each (λ k. f (part w k s) ∷ []) n
+  pieces_mapped f n s = sym (flat_map_single f (first_chunks w n s)) ∙ pieces_joined (λ t. f t ∷ []) n s
+
+module _ {X Y : Type 0} (f : X → List Y) where
   -- where each item gives w items, a part of what is joined is what an item gives
   module _ (w : ℕ) (wide : (x : X) → length (f x) ≡ w) where
     pub length_joined : (xs : List X) → length (flat_map f xs) ≡ w * length xs
@@ -90,7 +126,7 @@ module _ {X Y : Type 0} (f : X → List Y) where
     joined_each d xs zero fits = refl
     joined_each d xs (suc n) fits =
         let on : suc n ≡ n + 1 = omega arith in
-        ap (λ m. flat_map f (take m xs)) on ∙ ap (flat_map f) (take_more xs n d fits) ∙ joined_push (take n xs) (get_or xs n d)
+        ap (λ m. flat_map f (take m xs)) on ∙ ap (flat_map f) (take_more xs n d fits) ∙ joined_push f (take n xs) (get_or xs n d)
         ∙ ap (λ t. t ++ f (get_or xs n d)) (joined_each d xs n (omega arith))
 
     pub part_joined : (d : X) (xs : List X) (k : ℕ) → k < length xs → part w k (flat_map f xs) ≡ f (get_or xs k d)

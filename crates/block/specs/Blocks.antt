@@ -1,10 +1,11 @@
 -- Blocks: what one holds, and when one is right. Assumes nothing.
-use Rattle.std.specs.Prelude.{ℕ, ◌+◌, ◌-◌, ◌*◌, Bool, cond, ◌&&◌, List, [], ◌∷◌, ◌++◌, length, take, drop, replicate, ◌==◌, nat_le}
+use Rattle.std.specs.Prelude.{ℕ, ◌+◌, ◌-◌, ◌*◌, Bool, cond, ◌&&◌, List, ◌++◌, length, map, take, drop, replicate, ◌==◌, nat_le}
 use Rattle.std.specs.List.{flat_map}
+use Rattle.std.specs.Simd.{first_chunks}
 use Rattle.common.specs.Numbers.{number, le}
 use Rattle.framing.specs.Checksum.{checksum}
 use Rattle.register.specs.declared.entry.Entry.{Entry}
-use Rattle.block.specs.Parts.{part, each, all_zero}
+use Rattle.block.specs.Parts.{all_zero}
 use Rattle.block.specs.Entries.{entry_size, entry_bytes, entry_of}
 
 -- how many entries a block has room for, how many bytes they take, and where the count, the number, the zeros and the checksum stand
@@ -48,7 +49,7 @@ sum_of b = number (take 2 (drop sum_place b))
 
 -- the entries of a block
 abbrev pub entries_of : List ℕ → List Entry
-entries_of b = each (λ k. entry_of (part entry_size k b) ∷ []) (count_of b)
+entries_of b = map entry_of (first_chunks entry_size (count_of b) b)
 
 -- the checksum is right
 abbrev pub sum_right : List ℕ → Bool

@@ -1,13 +1,14 @@
 -- Unpacking: the entries of a register's blocks, or what is wrong with them. Assumes nothing.
-use Rattle.std.specs.Prelude.{◌≡◌, ℕ, ◌-◌, ◌*◌, ◌/◌, ◌%◌, Bool, cond, ◌&&◌, List, [], length, Some, None, Ok, Err, Option, Result, ◌==◌, nat_le}
+use Rattle.std.specs.Prelude.{◌≡◌, ℕ, ◌≤◌, ◌-◌, ◌*◌, ◌/◌, ◌%◌, Bool, cond, ◌&&◌, not, List, [], length, Some, None, Ok, Err, Option, Result, ◌==◌, nat_le}
+use Rattle.std.specs.List.{All, flat_map, sum_by, position, enumerate_from}
+use Rattle.std.specs.Simd.{first_chunks}
 use Rattle.common.specs.declared.list.List.{List as ListedIn}
 use Rattle.common.specs.Lists.{items, room}
 use Rattle.common.specs.declared.refusal.Refusal.{Refusal}
 use Rattle.register.specs.declared.entry.Entry.{Entry}
 use Rattle.block.specs.declared.unpacking.UnpackFault.{UnpackFault}
 use Rattle.block.specs.declared.unpacking.UnpackFault.TheVariants.{NotBlocks, WrongSum, WrongForm, TableShort}
-use Rattle.block.specs.Parts.{part, each, first_wrong}
-use Rattle.block.specs.Blocks.{block_size, sum_right, form_right, entries_of}
+use Rattle.block.specs.Blocks.{block_size, per_block, sum_right, form_right, count_of, entries_of}
 use Rattle.block.specs.Packing.{most_blocks}
 
 -- how many blocks some bytes are
@@ -18,38 +19,33 @@ block_count bytes = length bytes / block_size
 abbrev pub whole : List ℕ → Bool
 whole bytes = length bytes % block_size == 0 && nat_le (block_count bytes) most_blocks
 
+-- the blocks that they are cut into
+abbrev pub blocks_in : List ℕ → List (List ℕ)
+blocks_in bytes = first_chunks block_size (block_count bytes) bytes
+
 -- the first block with a wrong checksum
-abbrev pub wrong_sum : List ℕ → ℕ → Option ℕ
-wrong_sum bytes n = first_wrong (λ i. sum_right (part block_size i bytes)) n
+abbrev pub wrong_sum : List (List ℕ) → Option ℕ
+wrong_sum blocks = position (λ b. not (sum_right b)) blocks
 
--- the first block of n with a wrong count, number, zeros or free entries
-abbrev pub wrong_form : List ℕ → ℕ → Option ℕ
-wrong_form bytes n = first_wrong (λ i. form_right n i (part block_size i bytes)) n
-
--- the entries of the first n blocks
-abbrev pub entries_in : List ℕ → ℕ → List Entry
-entries_in bytes n = each (λ i. entries_of (part block_size i bytes)) n
+-- the first block with a wrong count, number, zeros or free entries
+abbrev pub wrong_form : List (List ℕ) → Option ℕ
+wrong_form blocks = position (λ p. not (form_right (length blocks) p.0 p.1)) (enumerate_from 0 blocks)
 
 -- the entries that some bytes are the blocks of: the first question that says no refuses them
 unfoldable pub unpacked : List ℕ → Result (List Entry) UnpackFault
 unpacked bytes =
     cond (whole bytes)
-    (elim (wrong_sum bytes (block_count bytes)) [
+    (elim (wrong_sum (blocks_in bytes)) [
       | Some i ↦ Err (WrongSum i)
-      | None ↦ elim (wrong_form bytes (block_count bytes)) [ Some i ↦ Err (WrongForm i) | None ↦ Ok (entries_in bytes (block_count bytes)) ]
+      | None ↦ elim (wrong_form (blocks_in bytes)) [ Some i ↦ Err (WrongForm i) | None ↦ Ok (flat_map entries_of (blocks_in bytes)) ]
     ])
     (Err NotBlocks)
 
--- n whole blocks, of which every question says yes
-pub record Right (bytes : List ℕ) (n : ℕ) : Type 0 where
-  pub long : block_size * n ≡ length bytes
-  pub sums : wrong_sum bytes n ≡ None
-  pub forms : wrong_form bytes n ≡ None
-
--- what is known when all questions were asked: how many blocks there are, or what is wrong
-abbrev pub Judged : List ℕ → Result ℕ UnpackFault → Type 0
-Judged bytes (Ok n) = Right bytes n × (unpacked bytes ≡ Ok (entries_in bytes n))
-Judged bytes (Err fault) = unpacked bytes ≡ Err fault
+-- the blocks that bytes are cut into, where every question says yes
+pub record Judged (bytes : List ℕ) (blocks : List (List ℕ)) : Type 0 where
+  pub few : sum_by count_of blocks ≤ per_block * most_blocks
+  pub counts : All (λ block. count_of block ≤ per_block) blocks
+  pub entries : unpacked bytes ≡ Ok (flat_map entries_of blocks)
 
 -- how many entries more a list has room for
 abbrev pub free : ListedIn Entry → ℕ

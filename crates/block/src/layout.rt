@@ -16,5 +16,7 @@ pub(crate) const SUM: usize = ZEROS + 8;
 // How many bytes a block has.
 pub const BLOCK: usize = SUM + 2;
 
+pub(crate) type Block = [u8; BLOCK];
+
 // A register has at most this many blocks.
 pub const MOST_BLOCKS: usize = 128;

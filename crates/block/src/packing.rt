@@ -1,11 +1,9 @@
 // Packing the entries of a register into blocks.
-ghost use Rattle.std.specs.Prelude.{◌≡◌, ◌*◌, ◌≤◌, ◌++◌, length, take, drop, if◌then◌else◌, Ok, Err};
+ghost use Rattle.std.specs.Prelude.{◌≡◌, ◌*◌, ◌≤◌, ◌++◌, length, take, drop, if◌then◌else◌, Ok, Err, IfOk};
 ghost use Rattle.std.specs.List.{flat_map, AllByRecursion};
-ghost use Rattle.common.specs.Numbers.{le};
-ghost use Rattle.framing.specs.Checksum.{checksum};
 ghost use Rattle.block.specs.Entries.{entry_size, entry_bytes, Fits};
 ghost use Rattle.block.specs.Blocks.{per_block, block_size, block};
-ghost use Rattle.block.specs.Packing.{most_blocks, needed, blocks, packed, fits, told};
+ghost use Rattle.block.specs.Packing.{most_blocks, needed, packed, fits, told};
 ghost use Rattle.block.specs.Unpacking.{unpacked};
 
 use crate::entries::{ENTRY, entry_bytes};
@@ -21,11 +19,11 @@ pub enum PackFault {
     NoSpace,
 }
 
-impl PackFault {
-    pub fn refusal(self) -> Refusal
-        ensures { result ≡ told self }
-    {
-        let number = match self {
+impl From<PackFault> for Refusal {
+    ghost from_gives = { λ fault refusal. refusal ≡ told fault };
+
+    fn from(fault: PackFault) -> Refusal {
+        let number = match fault {
             PackFault::NoSpace => 27,
         };
         Refusal {
@@ -36,6 +34,7 @@ impl PackFault {
     }
 }
 
+// Each of the next three calls says that the entries' numbers fit: tried without, and it is known of an entry only where it is read.
 // Writes entries to the front of a block, one behind the other.
 fn write_entries(entries: &[Entry], area: &mut [u8])
     requires { entry_size * length entries.now ≤ length area.old }
@@ -48,16 +47,10 @@ fn write_entries(entries: &[Entry], area: &mut [u8])
     }
 }
 
-// The checksum of the other bytes of a block.
-fn sum_bytes(front: &[u8]) -> [u8; 2]
-    ensures { result ≡ le 2 (checksum front.now) }
-{
-    checksum_of(front).to_le_bytes()
-}
-
 // Writes a block, whatever the space held before.
 fn write_block(number: u32, entries: &[Entry], space: &mut [u8])
-    requires { (length entries.now ≤ per_block) × (length space.old ≡ block_size) }
+    requires few { length entries.now ≤ per_block }
+    requires size { length space.old ≡ block_size }
     ensures writes { space.new ≡ block number entries.now }
     ensures fit { AllByRecursion Fits entries.now }
 {
@@ -65,25 +58,21 @@ fn write_block(number: u32, entries: &[Entry], space: &mut [u8])
     write_entries(entries, space);
     space[COUNT..NUMBER].copy_from_slice(&(entries.len() as u16).to_le_bytes());
     space[NUMBER..ZEROS].copy_from_slice(&number.to_le_bytes());
-    let sum = sum_bytes(&space[0..SUM]);
-    space[SUM..BLOCK].copy_from_slice(&sum);
+    let sum = checksum_of(&space[0..SUM]);
+    space[SUM..BLOCK].copy_from_slice(&sum.to_le_bytes());
 }
 
-// Writes the blocks of some entries to the front of a space.
-fn write_blocks(entries: &[Entry], count: usize, space: &mut [u8])
-    requires { (count ≡ needed entries.now) × ((count ≤ most_blocks) × (block_size * count ≤ length space.old)) }
-    ensures writes { space.new ≡ blocks count entries.now ++ drop (block_size * count) space.old }
+// Writes the blocks of some entries to the front of a space. What is written through `chunks_mut` is not known afterwards, so the written side is
+// indexed, here and in `write_entries`.
+fn write_blocks(entries: &[Entry], space: &mut [u8])
+    requires few { needed entries.now ≤ most_blocks }
+    requires room { block_size * needed entries.now ≤ length space.old }
+    ensures writes { space.new ≡ packed entries.now ++ drop (block_size * needed entries.now) space.old }
     ensures fit { AllByRecursion Fits entries.now }
 {
-    for i in 0..count {
-        let first = PER_BLOCK * i;
-        let end = entries.len().min(first + PER_BLOCK);
+    for (i, part) in entries.chunks(PER_BLOCK).enumerate() {
         let start = BLOCK * i;
-        write_block(
-            i as u32,
-            &entries[first..end],
-            &mut space[start..start + BLOCK],
-        );
+        write_block(i as u32, part, &mut space[start..start + BLOCK]);
     }
 }
 
@@ -91,13 +80,13 @@ fn write_blocks(entries: &[Entry], count: usize, space: &mut [u8])
 pub fn pack(entries: &[Entry], space: &mut [u8]) -> Result<usize, PackFault>
     ensures says { result ≡ (if fits entries.now (length space.old) then Ok (length (packed entries.now)) else Err PackFault.NoSpace) }
     ensures leaves { space.new ≡ (if fits entries.now (length space.old) then packed entries.now ++ drop (length (packed entries.now)) space.old else space.old) }
-    ensures within { elim result [ Ok n ↦ n ≤ length space.old | Err _ ↦ Unit {0} ] }
-    ensures back { elim result [ Ok n ↦ unpacked (take n space.new) ≡ Ok entries.now | Err _ ↦ Unit {0} ] }
+    ensures within { IfOk result (λ n. n ≤ length space.old) }
+    ensures back { IfOk result (λ n. unpacked (take n space.new) ≡ Ok entries.now) }
 {
     let count = entries.len().div_ceil(PER_BLOCK);
     if count > MOST_BLOCKS || space.len() < BLOCK * count {
         return Err(PackFault::NoSpace);
     }
-    write_blocks(entries, count, space);
+    write_blocks(entries, space);
     Ok(BLOCK * count)
 }

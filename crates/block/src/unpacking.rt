@@ -1,18 +1,20 @@
 // Unpacking blocks into the entries of a register.
-ghost use Rattle.std.specs.Prelude.{◌≡◌, ◌+◌, ◌*◌, ◌<◌, ◌≤◌, List as Sequence, ◌++◌, length, drop, Ok, nat_le};
+ghost use Rattle.std.specs.Prelude.{◌≡◌, ◌+◌, ◌*◌, ◌<◌, ◌≤◌, MatchResult, Err, List as Sequence, [], not, slice_index_or, position, ◌++◌, length, drop, Ok, nat_le};
+ghost use Rattle.std.specs.List.{All, sum_by, flat_map, enumerate_from};
+ghost use Rattle.std.specs.Simd.{first_chunks};
 ghost use Rattle.common.specs.Lists.{items, room};
 ghost use Rattle.common.specs.Added.{Added};
 ghost use Rattle.register.specs.declared.entry.Entry.{Entry as Listed};
-ghost use Rattle.block.specs.Parts.{part, all_zero};
+ghost use Rattle.block.specs.Parts.{all_zero};
 ghost use Rattle.block.specs.Entries.{entry_size, entry_of};
-ghost use Rattle.block.specs.Blocks.{per_block, block_size, sum_right, count_right, form_right, count_of, entries_of};
-ghost use Rattle.block.specs.Packing.{packed};
-ghost use Rattle.block.specs.Unpacking.{whole, wrong_sum, wrong_form, entries_in, Right, Judged, unpacked, free, answer, given, told};
+ghost use Rattle.block.specs.Blocks.{per_block, block_size, sum_right, count_right, form_right, count_of, number_of, entries_of};
+ghost use Rattle.block.specs.Packing.{most_blocks, packed};
+ghost use Rattle.block.specs.Unpacking.{whole, wrong_sum, wrong_form, Judged, unpacked, free, answer, given, told};
 ghost use Rattle.block.specs.Theorems.{Register};
 
 use crate::entries::{ENTRY, entry_of};
-use crate::layout::{BLOCK, COUNT, MOST_BLOCKS, NUMBER, PER_BLOCK, SUM, ZEROS};
-use crate::numbers::{u16_at, u32_at};
+use crate::layout::{BLOCK, Block, COUNT, MOST_BLOCKS, NUMBER, PER_BLOCK, SUM, ZEROS};
+use crate::numbers::array_at;
 use common::list::List;
 use common::refusal::Refusal;
 use framing::checksum::checksum_of;
@@ -31,11 +33,11 @@ pub enum UnpackFault {
     TableShort,
 }
 
-impl UnpackFault {
-    pub fn refusal(self) -> Refusal
-        ensures { result ≡ told self }
-    {
-        let (number, place) = match self {
+impl From<UnpackFault> for Refusal {
+    ghost from_gives = { λ fault refusal. refusal ≡ told fault };
+
+    fn from(fault: UnpackFault) -> Refusal {
+        let (number, place) = match fault {
             UnpackFault::NotBlocks => (28, 0),
             UnpackFault::WrongSum(block) => (29, block),
             UnpackFault::WrongForm(block) => (30, block),
@@ -52,29 +54,28 @@ impl UnpackFault {
 fn is_zero(bytes: &[u8]) -> bool
     ensures { result ≡ all_zero bytes.now }
 {
-    for b in bytes {
-        if *b != 0 {
-            return false;
-        }
-    }
-    true
+    bytes.iter().all(|b| *b == 0)
 }
 
-fn block_at(bytes: &[u8], i: usize) -> &[u8]
-    requires { block_size * i + block_size ≤ length bytes.now }
-    ensures value { result.now ≡ part block_size i bytes.now }
-    ensures len { length result.now ≡ block_size }
+// How many entries a block says that it holds.
+fn count_in(block: &Block) -> usize
+    ensures { result ≡ count_of block.now }
 {
-    let start = BLOCK * i;
-    &bytes[start..start + BLOCK]
+    u16::from_le_bytes(array_at(block, COUNT)) as usize
+}
+
+// The number that a block says that it has.
+fn number_in(block: &Block) -> usize
+    ensures { result ≡ number_of block.now }
+{
+    u32::from_le_bytes(array_at(block, NUMBER)) as usize
 }
 
 // Whether a block's checksum is right.
-fn has_right_sum(block: &[u8]) -> bool
-    requires { length block.now ≡ block_size }
+fn has_right_sum(block: &Block) -> bool
     ensures { result ≡ sum_right block.now }
 {
-    u16_at(block, SUM) == checksum_of(&block[0..SUM])
+    u16::from_le_bytes(array_at(block, SUM)) == checksum_of(&block[0..SUM])
 }
 
 // Whether a block may hold this many entries: one that is not the last is full.
@@ -89,44 +90,34 @@ fn is_right_count(count: usize, last: bool) -> bool
 }
 
 // Whether block i of some blocks has the right count and number, zeros where zeros stand, and free entries that are zero.
-fn has_right_form(block: &[u8], i: usize, blocks: usize) -> bool
-    requires { (length block.now ≡ block_size) × (i < blocks) }
+fn has_right_form(block: &Block, i: usize, blocks: usize) -> bool
+    requires { i < blocks }
     ensures { result ≡ form_right blocks i block.now }
 {
-    let count = u16_at(block, COUNT) as usize;
-    if !is_right_count(count, i + 1 == blocks) {
-        return false;
-    }
-    if u32_at(block, NUMBER) as usize != i {
+    let count = count_in(block);
+    if !is_right_count(count, i + 1 == blocks) || number_in(block) != i {
         return false;
     }
     is_zero(&block[ZEROS..SUM]) && is_zero(&block[ENTRY * count..COUNT])
 }
 
 // The first block whose checksum is wrong.
-fn first_wrong_sum(bytes: &[u8], blocks: usize) -> Option<usize>
-    requires { block_size * blocks ≡ length bytes.now }
-    ensures { result ≡ wrong_sum bytes.now blocks }
+fn first_wrong_sum(blocks: &[Block]) -> Option<usize>
+    ensures { result ≡ wrong_sum blocks.now }
 {
-    for i in 0..blocks {
-        if !has_right_sum(block_at(bytes, i)) {
-            return Some(i);
-        }
-    }
-    None
+    blocks.iter().position(|block| !has_right_sum(block))
 }
 
 // The first block whose count, number, zeros or free entries are wrong.
-fn first_wrong_form(bytes: &[u8], blocks: usize) -> Option<usize>
-    requires { block_size * blocks ≡ length bytes.now }
-    ensures { result ≡ wrong_form bytes.now blocks }
+fn first_wrong_form(blocks: &[Block]) -> Option<usize>
+    ensures { result ≡ wrong_form blocks.now }
 {
-    for i in 0..blocks {
-        if !has_right_form(block_at(bytes, i), i, blocks) {
-            return Some(i);
-        }
-    }
-    None
+    let count = blocks.len();
+    blocks.iter().enumerate().position(
+        |(i, block)| -> bool
+            requires { i < count }
+        { !has_right_form(block, i, count) },
+    )
 }
 
 // Whether some bytes are whole blocks, and at most as many as a register has.
@@ -136,75 +127,65 @@ fn are_blocks(bytes: &[u8]) -> bool
     bytes.len() % BLOCK == 0 && bytes.len() / BLOCK <= MOST_BLOCKS
 }
 
-// Asks all questions of some bytes, and answers how many blocks they are.
-fn judge(bytes: &[u8]) -> Result<usize, UnpackFault>
-    ensures { Judged bytes.now result }
+// Asks all questions of some bytes, and answers with their blocks.
+#[tactic(auto, using(crate::proofs::Registers::not_blocks, crate::proofs::Registers::bad_sum, crate::proofs::Registers::bad_form))]
+fn judge(bytes: &[u8]) -> Result<&[Block], UnpackFault>
+    ensures { MatchResult result (λ blocks. Judged bytes.now blocks.now) (λ fault. unpacked bytes.now ≡ Err fault) }
 {
     if !are_blocks(bytes) {
         return Err(UnpackFault::NotBlocks);
     }
-    let blocks = bytes.len() / BLOCK;
-    if let Some(i) = first_wrong_sum(bytes, blocks) {
+    let (blocks, _) = bytes.as_chunks();
+    if let Some(i) = first_wrong_sum(blocks) {
         return Err(UnpackFault::WrongSum(i));
     }
-    if let Some(i) = first_wrong_form(bytes, blocks) {
+    if let Some(i) = first_wrong_form(blocks) {
         return Err(UnpackFault::WrongForm(i));
     }
     Ok(blocks)
 }
 
-// How many entries right blocks hold: all of them but the last are full.
-fn entry_count(bytes: &[u8], blocks: usize) -> usize
-    requires { Right bytes.now blocks }
-    ensures { result ≡ length (entries_in bytes.now blocks) }
+// How many entries some blocks hold.
+fn entry_count(blocks: &[Block]) -> usize
+    requires { sum_by count_of blocks.now ≤ per_block * most_blocks }
+    ensures { result ≡ sum_by count_of blocks.now }
 {
-    if blocks == 0 {
-        return 0;
-    }
-    let last = blocks - 1;
-    PER_BLOCK * last + u16_at(block_at(bytes, last), COUNT) as usize
+    blocks.iter().map(count_in).sum()
 }
 
-// Whether a list has room for this many entries more.
-fn has_room(out: &List<'_, Entry>, count: usize) -> bool
-    ensures { result ≡ nat_le count (free out.now) }
+// The bytes of a block's entries. The bound is asked of three calls, and holds of blocks that were judged; a type of such blocks would be one more.
+fn slots(block: &Block) -> &[[u8; ENTRY]]
+    requires { count_of block.now ≤ per_block }
+    ensures { result.now ≡ first_chunks entry_size (count_of block.now) block.now }
 {
-    count <= out.room() - out.len()
-}
-
-// The entry at a place in a block.
-fn entry_at(block: &[u8], k: usize) -> Entry
-    requires { entry_size * k + entry_size ≤ length block.now }
-    ensures { result ≡ entry_of (part entry_size k block.now) }
-{
-    let start = ENTRY * k;
-    let mut bytes = [0; ENTRY];
-    bytes.copy_from_slice(&block[start..start + ENTRY]);
-    entry_of(bytes)
+    let (slots, _) = block.as_chunks();
+    &slots[..count_in(block)]
 }
 
 // Puts the entries of a block behind those of a list, where there is room for them.
-fn add_entries(block: &[u8], out: &mut List<'_, Entry>)
-    requires { (length block.now ≡ block_size) × ((count_of block.now ≤ per_block) × (length (items out.old) + count_of block.now ≤ room out.old)) }
+fn add_entries(block: &Block, out: &mut List<'_, Entry>)
+    requires count { count_of block.now ≤ per_block }
+    requires room { length (items out.old) + count_of block.now ≤ room out.old }
     ensures { Added out.old (entries_of block.now) out.new }
 {
-    let count = u16_at(block, COUNT) as usize;
-    for k in 0..count {
-        let _ = out.push(entry_at(block, k));
+    for slot in slots(block) {
+        let _ = out.push(entry_of(*slot));
     }
 }
 
-// Puts the entries of right blocks behind those of a list, where there is room for them.
-fn add_blocks(bytes: &[u8], blocks: usize, out: &mut List<'_, Entry>)
-    requires { (Right bytes.now blocks) × (length (items out.old) + length (entries_in bytes.now blocks) ≤ room out.old) }
-    ensures { Added out.old (entries_in bytes.now blocks) out.new }
+// Puts the entries of some blocks behind those of a list, where there is room for them.
+fn add_blocks(blocks: &[Block], out: &mut List<'_, Entry>)
+    requires counts { All (λ block. count_of block ≤ per_block) blocks.now }
+    requires room { length (items out.old) + sum_by count_of blocks.now ≤ room out.old }
+    ensures { Added out.old (flat_map entries_of blocks.now) out.new }
 {
-    for i in 0..blocks {
-        add_entries(block_at(bytes, i), out);
+    for block in blocks {
+        add_entries(block, out);
     }
 }
 
 // Puts the entries of a register's blocks behind those of a list. Nothing is written before every question was asked.
+#[tactic(auto, using(crate::proofs::Registers::unpacked_again, crate::proofs::Blocks::entries_count))]
 pub fn unpack(bytes: &[u8], out: &mut List<'_, Entry>) -> Result<(), UnpackFault>
     ensures says { result ≡ answer (unpacked bytes.now) (free out.old) }
     ensures items { items out.new ≡ items out.old ++ given (unpacked bytes.now) (free out.old) }
@@ -215,9 +196,9 @@ pub fn unpack(bytes: &[u8], out: &mut List<'_, Entry>) -> Result<(), UnpackFault
     ensures back { (es : Sequence Listed) → Register es → bytes.now ≡ packed es → unpacked bytes.now ≡ Ok es }
 {
     let blocks = judge(bytes)?;
-    if !has_room(out, entry_count(bytes, blocks)) {
+    if entry_count(blocks) > out.room() - out.len() {
         return Err(UnpackFault::TableShort);
     }
-    add_blocks(bytes, blocks, out);
+    add_blocks(blocks, out);
     Ok(())
 }

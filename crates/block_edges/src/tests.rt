@@ -7,15 +7,6 @@ use std::alloc::Global;
 use std::process::Abort;
 use std::test::*;
 
-const NONE: Entry = Entry {
-    place: 0,
-    len: 0,
-    kind: 0,
-    series: 0,
-    verdict: 0,
-    fault: 0,
-};
-
 // Some entries, each with numbers of its own.
 fn some_entries(alloc: Global, count: u16) -> Result<Vec<Entry>, Fail> {
     let mut entries = Vec::new(alloc);
@@ -42,7 +33,7 @@ fn goes_there_and_back(
     let entries = some_entries(alloc, count)?;
     let mut space = vec![in alloc; 7u8; bytes]?;
     assert_eq!(rt; pack(&entries, &mut space), Ok(bytes));
-    let mut table = vec![in alloc; NONE; entries.len()]?;
+    let mut table = vec![in alloc; Entry::default(); entries.len()]?;
     let mut list = List::new(&mut table);
     assert_eq!(rt; unpack(&space, &mut list), Ok(()));
     assert!(rt; list.as_slice() == entries.as_slice());
@@ -83,7 +74,7 @@ fn a_table_one_entry_short(rt: HostRuntime) -> Result<(), Fail> {
     let entries = some_entries(rt.alloc(), 32)?;
     let mut space = vec![in rt.alloc(); 0u8; 1024]?;
     assert_eq!(rt; pack(&entries, &mut space), Ok(1024));
-    let mut table = vec![in rt.alloc(); NONE; 31]?;
+    let mut table = vec![in rt.alloc(); Entry::default(); 31]?;
     let mut list = List::new(&mut table);
     assert_eq!(rt; unpack(&space, &mut list), Err(UnpackFault::TableShort));
     assert_eq!(rt; list.len(), 0);
@@ -95,7 +86,7 @@ fn the_first_wrong_block(rt: HostRuntime) -> Result<(), Fail> {
     let entries = some_entries(rt.alloc(), 63)?;
     let mut space = vec![in rt.alloc(); 0u8; 1536]?;
     assert_eq!(rt; pack(&entries, &mut space), Ok(1536));
-    let mut table = vec![in rt.alloc(); NONE; 63]?;
+    let mut table = vec![in rt.alloc(); Entry::default(); 63]?;
     let mut list = List::new(&mut table);
     assert_eq!(rt;
         unpack(&space[512..1536], &mut list),

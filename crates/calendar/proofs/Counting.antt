@@ -1,38 +1,36 @@
 -- The days of months and years, added up. Assumes nothing.
-use Rattle.std.proofs.Common.{◌≡◌, ℕ, ◌+◌, ◌<◌, Bool, true, false, cond, sym, refl, ap, ◌∙◌, add-one, arith}
+use Rattle.std.proofs.Common.{◌≡◌, ℕ, suc, ◌+◌, ◌-◌, ◌≤◌, Bool, true, false, cond, refl, ap, ◌∙◌, arith}
 use Rattle.calendar.specs.Calendar.{leap, days, year_days, months_days, years_days}
 
 pub no_months : (year : ℕ) → months_days year 0 ≡ 0
 unfolding months_days
 no_months year = refl
 
-pub one_month_more : (year m : ℕ) → months_days year (m + 1) ≡ months_days year m + days year m
+pub one_month_more : (year month : ℕ) → 1 ≤ month → months_days year (month + 1 - 1) ≡ months_days year (month - 1) + days year (month - 1)
 unfolding months_days
-one_month_more year m = rw add-one
+one_month_more year month first =
+    let next : month + 1 - 1 ≡ suc (month - 1) = omega arith in
+    rw next
+
+twelve_months : (b : Bool) → 0 + 31 + cond b 29 28 + 31 + 30 + 31 + 30 + 31 + 31 + 30 + 31 + 30 + 31 ≡ cond b 366 365
+twelve_months true = refl
+twelve_months false = refl
+
+pub whole_year : (year m : ℕ) → m ≡ 12 → months_days year m ≡ year_days year
+unfolding months_days
+whole_year year m twelve = ap (months_days year) twelve ∙ twelve_months (leap year)
+
+pub ruleset month_steps = (no_months, one_month_more, whole_year)
 
 pub no_years : years_days 0 ≡ 0
 unfolding years_days
 no_years = refl
 
-pub one_year_more : (n : ℕ) → years_days (n + 1) ≡ years_days n + year_days (1970 + n)
+pub one_year_more : (year : ℕ) → 1970 ≤ year → years_days (year + 1 - 1970) ≡ years_days (year - 1970) + year_days year
 unfolding years_days
-one_year_more n = rw add-one
+one_year_more year late =
+    let next : year + 1 - 1970 ≡ suc (year - 1970) = omega arith in
+    let back : 1970 + (year - 1970) ≡ year = omega arith in
+    rw (next, back)
 
--- December has 31 days, and with it the year is whole
-december : (b : Bool) → 0 + 31 + cond b 29 28 + 31 + 30 + 31 + 30 + 31 + 31 + 30 + 31 + 30 + 31 ≡ cond b 366 365
-december true = refl
-december false = refl
-
-pub december_last : (year : ℕ) → months_days year 11 + 31 ≡ year_days year
-unfolding months_days
-december_last year = december (leap year)
-
-add_lt_cancel : (a b c d e : ℕ) → a + b ≡ e → a + c ≡ d → e < d → b < c
-add_lt_cancel a b c d e p q l = omega arith
-
--- past eleven months there are fewer than 31 days left
-pub in_december : (year m rest day : ℕ) → m ≡ 11 → months_days year m + rest ≡ day → day < year_days year → (rest < 31) × (months_days year 11 + rest ≡ day)
-in_december year m rest day eleven sum less =
-    let same : months_days year 11 + rest ≡ day = ap (λ k. months_days year k + rest) (sym eleven) ∙ sum in
-    let whole : months_days year 11 + 31 ≡ year_days year = december_last year in
-    (add_lt_cancel (months_days year 11) rest 31 (year_days year) day same whole less, same)
+pub ruleset year_steps = (no_years, one_year_more)

@@ -2,11 +2,6 @@
 ghost use Rattle.std.specs.Prelude.{◌≡◌, ◌+◌, ◌<◌, ◌≤◌, Some, None};
 ghost use Rattle.calendar.specs.Calendar.{leap, days, year_days, years_days, Dated, IsDay};
 
-const FIRST_YEAR: u16 = 1970;
-
-// How many years there are from 1970 to 9999.
-const YEARS: u16 = 8030;
-
 // A day of the calendar: its year, its month from 1, and its day of the month from 1.
 #[derive(Clone, Copy, PartialEq, Eq, Debug)]
 pub struct Date {
@@ -25,13 +20,11 @@ fn is_leap(year: u16) -> bool
 pub fn days_of(year: u16, month: u8) -> u8
     ensures { result ≡ days year month }
 {
-    if month == 1 {
-        return if is_leap(year) { 29 } else { 28 };
-    }
-    if month == 3 || month == 5 || month == 8 || month == 10 {
-        30
-    } else {
-        31
+    match month {
+        1 if is_leap(year) => 29,
+        1 => 28,
+        3 | 5 | 8 | 10 => 30,
+        _ => 31,
     }
 }
 
@@ -42,38 +35,33 @@ fn days_of_year(year: u16) -> u16
 }
 
 // The date of a day of a year, counted from 0.
+#[tactic(auto, using(crate::proofs::Counting::month_steps))]
 fn date_in(year: u16, day: u16) -> Date
     requires { day < year_days year }
     ensures { Dated year day result }
 {
     let mut rest = day;
-    for month in 0..11u8 {
-        let length = u16::from(days_of(year, month));
+    for month in 1..=12 {
+        let length = u16::from(days_of(year, month - 1));
         if rest < length {
-            return Date {
-                year,
-                month: month + 1,
-                day: rest as u8 + 1,
-            };
+            let day = rest as u8 + 1;
+            return Date { year, month, day };
         }
         rest -= length;
     }
-    Date {
-        year,
-        month: 12,
-        day: rest as u8 + 1,
-    }
+    unreachable!()
 }
 
 // The date of a day, counted from 0 at 1 January 1970; none past the year 9999.
+#[tactic(auto, using(crate::proofs::Counting::year_steps))]
 pub fn date_of(day: u64) -> Option<Date>
     ensures { elim result [ Some d ↦ IsDay day d | None ↦ years_days 8030 ≤ day ] }
 {
     let mut rest = day;
-    for n in 0..YEARS {
-        let length = u64::from(days_of_year(FIRST_YEAR + n));
+    for year in 1970..=9999 {
+        let length = u64::from(days_of_year(year));
         if rest < length {
-            return Some(date_in(FIRST_YEAR + n, rest as u16));
+            return Some(date_in(year, rest as u16));
         }
         rest -= length;
     }

@@ -1,3 +1,4 @@
 pub mod Pushes
 pub mod Additions
 pub mod Numbers
+pub mod Extends

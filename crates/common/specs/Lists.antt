@@ -1,5 +1,5 @@
 -- What a list over a table holds. Assumes nothing.
-use Rattle.std.specs.Prelude.{ℕ, Bool, List as Sequence, length, take, nat_lt}
+use Rattle.std.specs.Prelude.{ℕ, ◌+◌, Bool, List as Sequence, length, take, nat_le, nat_lt}
 use Rattle.common.specs.declared.list.List.{List}
 use Rattle.common.specs.declared.lists.Full.{Full}
 
@@ -15,6 +15,10 @@ module _ {X : Type 0} where
   -- whether there is room for one item more
   abbrev pub has_room : List X → Bool
   has_room l = nat_lt (length (items l)) (room l)
+
+  -- whether there is room for n items more
+  abbrev pub has_room_for : ℕ → List X → Bool
+  has_room_for n l = nat_le (length (items l) + n) (room l)
 
 -- the refusal of a full list
 abbrev pub full : Full

@@ -1,6 +1,7 @@
 // The calls of a list.
 ghost use Rattle.std.specs.Prelude.{◌≡◌, [], ◌∷◌, ◌++◌, length, drop, if◌then◌else◌, Ok, Err, slice_set};
-ghost use Rattle.common.specs.Lists.{items, room, has_room, full};
+ghost use Rattle.common.specs.Added.{Added};
+ghost use Rattle.common.specs.Lists.{items, room, has_room, has_room_for, full};
 
 use crate::list::List;
 
@@ -51,6 +52,20 @@ impl<'a, T: Copy> List<'a, T> {
         }
         self.table[self.len] = x;
         self.len += 1;
+        Ok(())
+    }
+
+    // Adds items behind the others, or none of them where the table has not room for all.
+    pub fn extend_from_slice(&mut self, xs: &[T]) -> Result<(), Full>
+        ensures says { result ≡ (if has_room_for (length xs.now) self.old then Ok tt else Err full) }
+        ensures added { Added self.old (if has_room_for (length xs.now) self.old then xs.now else []) self.new }
+    {
+        if self.table.len() - self.len < xs.len() {
+            return Err(Full);
+        }
+        let end = self.len + xs.len();
+        self.table[self.len..end].copy_from_slice(xs);
+        self.len = end;
         Ok(())
     }
 }

@@ -1,6 +1,11 @@
 // Refusals, as every layer tells them.
+ghost use Rattle.std.specs.Prelude.{◌≡◌, Some};
+ghost use Rattle.common.specs.Refusals.{meaning, refusal_text};
+
+use std::fmt;
 
 // A refusal: its number, the layer that refuses (1 intake, 2 format, 3 writer of frames and lines, 4 blocks), and a place, 0 where none is named.
+// Number and layer are no enums: a refusal may also tell what a format of another kind says, and `meaning` answers for every number.
 #[derive(Clone, Copy, PartialEq, Eq, Debug)]
 pub struct Refusal {
     pub number: u16,
@@ -10,7 +15,9 @@ pub struct Refusal {
 
 impl Refusal {
     // What the refusal's number says, in words.
-    pub fn meaning(self) -> &'static str {
+    pub fn meaning(self) -> &'static str
+        ensures { result.now ≡ meaning self.number }
+    {
         match self.number {
             1 => "the stream is closed",
             2 => "more than 2^40 bytes would have been accepted",
@@ -41,5 +48,15 @@ impl Refusal {
             31 => "the table is too short for the entries",
             _ => "unknown",
         }
+    }
+}
+
+impl fmt::Display for Refusal {
+    ghost output = { λ r. Some (refusal_text r) };
+
+    fn fmt<W: fmt::Write>(&self, f: &mut fmt::Formatter<W>) -> fmt::Result {
+        let number = self.number;
+        let words = self.meaning();
+        write!(f, "{number}: {words}")
     }
 }

@@ -9,33 +9,35 @@ use std::io::Read;
 
 // Whether a program that takes no argument should do its work: `--help` only prints its usage, and any other argument is an error.
 pub fn starts(rt: &HostRuntime, usage: &str) -> anyhow::Result<bool> {
-    for (i, arg) in env::args(rt)?.enumerate() {
-        if i == 0 {
-            continue;
-        }
-        if arg.as_str() == "--help" || arg.as_str() == "-h" {
+    let Some(arg) = env::args(rt)?.nth(1) else {
+        return Ok(true);
+    };
+    match arg.as_str() {
+        "--help" | "-h" => {
             rt.println(usage)?;
-            return Ok(false);
+            Ok(false)
         }
-        rt.eprintln(usage)?;
-        return Err(anyhow!("an argument that is not known"));
+        _ => {
+            rt.eprintln(usage)?;
+            Err(anyhow!("an argument that is not known"))
+        }
     }
-    Ok(true)
 }
 
 // Fills a space from standard input, reading again until it is full or the input ends; answers how many bytes it holds then.
 pub fn fill(rt: &HostRuntime, space: &mut [u8]) -> anyhow::Result<usize>
     ensures { IfOk result (λ n. n ≤ length space.old) }
 {
-    let mut filled = 0;
-    while filled < space.len() {
-        let n = rt.stdin().read(&mut space[filled..])?;
+    let len = space.len();
+    let mut rest = space;
+    while !rest.is_empty() {
+        let n = rt.stdin().read(rest)?;
         if n == 0 {
             break;
         }
-        filled += n;
+        rest = &mut rest[n..];
     }
-    Ok(filled)
+    Ok(len - rest.len())
 }
 
 // All of standard input.

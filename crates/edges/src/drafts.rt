@@ -9,14 +9,6 @@ use writing::draft::Draft;
 use writing::drafts::DraftFull;
 use writing::tag::write_tag;
 
-const NONE: Part = Part {
-    code: 0,
-    place: 0,
-    width: 0,
-    count: 0,
-    signed: false,
-};
-
 // The header of a frame without data, of series 0x15.
 const EMPTY: [u8; 10] = [0xA5, 0x0A, 0x15, 0x10, 0, 0, 0x8C, 0xB5, 0xD2, 0x85];
 
@@ -90,7 +82,7 @@ fn a_tag_written_again_from_its_parts(rt: HostRuntime) {
     let mut space = [0u8; 14];
     assert_eq!(rt; write_tag(b"ab", &mut space[0..13]), Err(DraftFull));
     assert_eq!(rt; write_tag(b"ab", &mut space), Ok(14));
-    let mut table = [NONE; 3];
+    let mut table = [Part::default(); 3];
     let mut parts = List::new(&mut table);
     assert!(rt; Text.list(1, &space, &mut parts).is_ok());
     let mut copy = [7u8; 15];

@@ -6,15 +6,6 @@ use register::entry::Entry;
 use stream::answers::{Fault, Taken};
 use stream::intake::Intake;
 
-const NONE: Entry = Entry {
-    place: 0,
-    len: 0,
-    kind: 0,
-    series: 0,
-    verdict: 0,
-    fault: 0,
-};
-
 #[test]
 fn a_delivery_of_8192_bytes_and_of_8193(rt: HostRuntime) {
     let bytes = [0u8; 8193];
@@ -28,7 +19,7 @@ fn a_delivery_of_8192_bytes_and_of_8193(rt: HostRuntime) {
 #[test]
 fn a_space_of_the_reach_and_one_byte_under_it(rt: HostRuntime) {
     let mut space = [0u8; 512];
-    let mut table = [NONE; 1];
+    let mut table = [Entry::default(); 1];
     let mut register = List::new(&mut table);
     let mut intake = Intake::new();
     assert_eq!(rt;
@@ -49,7 +40,7 @@ fn a_space_of_the_reach_and_one_byte_under_it(rt: HostRuntime) {
 #[test]
 fn the_last_place_of_a_register(rt: HostRuntime) {
     let mut space = [0u8; 512];
-    let mut table = [NONE; 1];
+    let mut table = [Entry::default(); 1];
     let mut register = List::new(&mut table);
     let mut intake = Intake::new();
     assert_eq!(rt; intake.deliver(b"$A*41\r\n"), Ok(()));

@@ -8,7 +8,7 @@ use Rattle.framing.specs.Binary.{binary, header_of}
 use Rattle.framing.specs.Sentence.{sentence, sentence_of}
 use Rattle.framing.specs.Verdicts.{or_else}
 use Rattle.reading.specs.Reading.{found, Reading}
-use Rattle.format.specs.Meaning.{Meaning}
+use Rattle.format.specs.Meaning.{Meaning, verdict_number, fault_place}
 use Rattle.format.specs.Sentence.{sentence_meaning}
 use Rattle.format.specs.Text.{text_meaning}
 use Rattle.format.specs.Items.{item_of}
@@ -51,7 +51,7 @@ abbrev row_holds : Row → Bool
 row_holds (sum s n) = checksum s == n
 row_holds (verdict p s v) = same (judged p s) v
 row_holds (prefixes p s) = short_below p s (length s)
-row_holds (meaning m number place count) = m.judgement.number == number && (m.judgement.place == place && length m.parts == count)
+row_holds (meaning m number place count) = verdict_number m.judgement == number && (fault_place m.judgement == place && length m.parts == count)
 row_holds (keeps n yes_or_no) = same_truth (is_ok (ask_deliver false 0 0 n)) yes_or_no
 
 abbrev pub holds : List Row → Bool

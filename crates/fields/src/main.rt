@@ -5,12 +5,13 @@ use crate::printing::print_record;
 use anyhow::anyhow;
 use common::list::List;
 use common::refusal::Refusal;
-use console::{fill, starts};
+use console::starts;
 use format::format::{Format, Part};
 use register::entry::Entry;
 use std::io::{BufWriter, Stdout, Write};
 use stream::answers::{Fault, Taken};
 use stream::intake::Intake;
+use survey::feeding::next_piece;
 use survey::printing::{conclude, print_totals};
 use survey::setup::{SPACE, all_formats, both_framings, entry_table};
 
@@ -27,7 +28,7 @@ const ENTRIES: usize = 64;
 
 const PARTS: usize = 128;
 
-// Takes records and prints each, until there is none or a take is refused.
+// Takes records and prints each, until there is none or a take is refused. Writer, formats, intake and spaces are lent each by itself, as to a take.
 fn take_some<G: Format>(
     out: &mut BufWriter<Stdout>,
     formats: &G,
@@ -37,6 +38,7 @@ fn take_some<G: Format>(
     parts: &mut [Part],
 ) -> anyhow::Result<Result<Taken, Fault>> {
     let framings = both_framings();
+    // No register reaches the bound: a loop must be seen to end.
     for _ in 0..u64::MAX {
         match intake.take(&framings, formats, register, space) {
             Ok(Taken::Record(entry)) => print_record(out, formats, entry, space, parts)?,
@@ -55,6 +57,7 @@ fn take_all<G: Format>(
     space: &mut [u8],
     parts: &mut [Part],
 ) -> anyhow::Result<Result<Taken, Fault>> {
+    // The same bound.
     for _ in 0..u64::MAX {
         let mut register = List::new(&mut table[..]);
         match take_some(out, formats, intake, &mut register, space, parts)? {
@@ -65,7 +68,8 @@ fn take_all<G: Format>(
     Err(anyhow!("the records do not end"))
 }
 
-// Delivers a piece of the stream, and closes the stream where it is the last.
+// Delivers a piece of the stream, and closes the stream where it is the last. The like of it in the intake's crate is private: public it would have to
+// carry the law over two turns.
 fn accept(intake: &mut Intake, bytes: &[u8], last: bool) -> Result<(), Fault> {
     intake.deliver(bytes)?;
     if last {
@@ -85,15 +89,14 @@ fn print_all(
     let formats = all_formats();
     let mut piece = vec![in rt.alloc(); 0u8; SPACE]?;
     let mut space = vec![in rt.alloc(); 0u8; SPACE]?;
+    // No input reaches the bound: a loop must be seen to end.
     for _ in 0..u64::MAX {
-        let free = intake.free();
-        let n = fill(rt, &mut piece[0..free])?;
-        let last = n < free;
+        let (n, last) = next_piece(rt, intake, &mut piece)?;
         if let Err(fault) = accept(intake, &piece[0..n], last) {
-            return Ok(Some(fault.refusal()));
+            return Ok(Some(Refusal::from(fault)));
         }
         match take_all(out, &formats, intake, table, &mut space, parts)? {
-            Err(fault) => return Ok(Some(fault.refusal())),
+            Err(fault) => return Ok(Some(Refusal::from(fault))),
             Ok(Taken::Drained) => return Ok(None),
             Ok(_) => {}
         }
@@ -103,15 +106,8 @@ fn print_all(
 
 // Prints the records and the totals, and answers what was refused.
 fn print_stream(rt: &HostRuntime) -> anyhow::Result<Option<Refusal>> {
-    let part = Part {
-        code: 0,
-        place: 0,
-        width: 0,
-        count: 0,
-        signed: false,
-    };
     let mut table = entry_table(rt, ENTRIES)?;
-    let mut parts = vec![in rt.alloc(); part; PARTS]?;
+    let mut parts = vec![in rt.alloc(); Part::default(); PARTS]?;
     let mut intake = Intake::new();
     let mut out = BufWriter::new(rt.alloc(), rt.stdout())?;
     let refused = print_all(rt, &mut out, &mut intake, &mut table, &mut parts)?;

@@ -1,108 +1,5 @@
-// The names of formats and of their parts.
+// The names of parts, and how their items are written.
 use guides::RecordFormat;
-
-const DF3: [&str; 41] = [
-    "version",
-    "offset",
-    "configuration",
-    "serial",
-    "year",
-    "month",
-    "day",
-    "hour",
-    "minute",
-    "second",
-    "hundred microseconds",
-    "sound speed",
-    "temperature",
-    "pressure",
-    "heading",
-    "pitch",
-    "roll",
-    "layout",
-    "cell size",
-    "blanking",
-    "nominal correlation",
-    "sensor temperature",
-    "battery",
-    "magnetometer",
-    "accelerometer",
-    "ambiguity velocity",
-    "data set",
-    "energy",
-    "velocity scaling",
-    "power level",
-    "magnetometer temperature",
-    "clock temperature",
-    "error",
-    "extended status",
-    "status",
-    "ensemble counter",
-    "spare",
-    "velocities",
-    "amplitudes",
-    "correlations",
-    "tail",
-];
-
-const DF7: [&str; 23] = [
-    "version",
-    "instrument type",
-    "offset",
-    "configuration",
-    "types",
-    "validity",
-    "serial",
-    "year",
-    "month",
-    "day",
-    "hour",
-    "minute",
-    "second",
-    "hundred microseconds",
-    "sound speed",
-    "temperature",
-    "pressure",
-    "absolute pressure",
-    "heading",
-    "pitch",
-    "roll",
-    "spare",
-    "tail",
-];
-
-const TEXT: [&str; 3] = ["identifier", "text", "end"];
-
-// The name with a code, of names whose codes count from 1.
-fn name_of(names: &[&'static str], code: u16) -> &'static str {
-    let i = code as usize;
-    if i >= 1 && i <= names.len() {
-        names[i - 1]
-    } else {
-        "part"
-    }
-}
-
-// The name of a part; the fields of a sentence are numbered.
-pub(crate) fn part_name(format: RecordFormat, code: u16) -> &'static str {
-    match format {
-        RecordFormat::Df3 => name_of(&DF3, code),
-        RecordFormat::Df7 => name_of(&DF7, code),
-        RecordFormat::Text => name_of(&TEXT, code),
-        RecordFormat::Sentence => "field",
-        RecordFormat::Unknown => "part",
-    }
-}
-
-pub(crate) fn format_name(format: RecordFormat) -> &'static str {
-    match format {
-        RecordFormat::Df3 => "DF3",
-        RecordFormat::Df7 => "DF7",
-        RecordFormat::Text => "string",
-        RecordFormat::Sentence => "sentence",
-        RecordFormat::Unknown => "unknown",
-    }
-}
 
 // How the items of a part are written.
 #[derive(Clone, Copy, PartialEq, Eq, Debug)]
@@ -129,59 +26,125 @@ pub(crate) enum Style {
     Percentage,
 }
 
-fn df3_style(code: u16) -> Style {
-    match code {
-        5 => Style::Clock,
-        6..=11 => Style::InClock,
-        12 | 23 => Style::Scaled(-1),
-        13 | 15 | 16 | 17 | 20 => Style::Scaled(-2),
-        14 | 19 | 31 => Style::Scaled(-3),
-        22 => Style::SensorTemperature,
-        26 | 38 => Style::Velocity,
-        39 => Style::Halves,
-        21 | 40 => Style::Percentage,
-        _ => Style::Number,
+// A part as it is shown: its name, how its items are written, and their unit, empty where they have none.
+#[derive(Clone, Copy, Debug)]
+pub(crate) struct Shown {
+    pub name: &'static str,
+    pub style: Style,
+    pub unit: &'static str,
+}
+
+macro_rules! shown {
+    ($name:literal, $style:expr, $unit:literal) => {
+        Shown {
+            name: $name,
+            style: $style,
+            unit: $unit,
+        }
+    };
+}
+
+// The parts of each format by their codes, which count from 1.
+const DF3: [Shown; 41] = [
+    shown!("version", Style::Number, ""),
+    shown!("offset", Style::Number, ""),
+    shown!("configuration", Style::Number, ""),
+    shown!("serial", Style::Number, ""),
+    shown!("year", Style::Clock, ""),
+    shown!("month", Style::InClock, ""),
+    shown!("day", Style::InClock, ""),
+    shown!("hour", Style::InClock, ""),
+    shown!("minute", Style::InClock, ""),
+    shown!("second", Style::InClock, ""),
+    shown!("hundred microseconds", Style::InClock, ""),
+    shown!("sound speed", Style::Scaled(-1), " m/s"),
+    shown!("temperature", Style::Scaled(-2), " °C"),
+    shown!("pressure", Style::Scaled(-3), " dbar"),
+    shown!("heading", Style::Scaled(-2), "°"),
+    shown!("pitch", Style::Scaled(-2), "°"),
+    shown!("roll", Style::Scaled(-2), "°"),
+    shown!("layout", Style::Number, ""),
+    shown!("cell size", Style::Scaled(-3), " m"),
+    shown!("blanking", Style::Scaled(-2), " m"),
+    shown!("nominal correlation", Style::Percentage, "%"),
+    shown!("sensor temperature", Style::SensorTemperature, " °C"),
+    shown!("battery", Style::Scaled(-1), " V"),
+    shown!("magnetometer", Style::Number, ""),
+    shown!("accelerometer", Style::Number, ""),
+    shown!("ambiguity velocity", Style::Velocity, " m/s"),
+    shown!("data set", Style::Number, ""),
+    shown!("energy", Style::Number, ""),
+    shown!("velocity scaling", Style::Number, ""),
+    shown!("power level", Style::Number, " dB"),
+    shown!("magnetometer temperature", Style::Scaled(-3), " °C"),
+    shown!("clock temperature", Style::Number, ""),
+    shown!("error", Style::Number, ""),
+    shown!("extended status", Style::Number, ""),
+    shown!("status", Style::Number, ""),
+    shown!("ensemble counter", Style::Number, ""),
+    shown!("spare", Style::Number, ""),
+    shown!("velocities", Style::Velocity, " m/s"),
+    shown!("amplitudes", Style::Halves, " dB"),
+    shown!("correlations", Style::Percentage, "%"),
+    shown!("tail", Style::Number, ""),
+];
+
+const DF7: [Shown; 23] = [
+    shown!("version", Style::Number, ""),
+    shown!("instrument type", Style::Number, ""),
+    shown!("offset", Style::Number, ""),
+    shown!("configuration", Style::Number, ""),
+    shown!("types", Style::Number, ""),
+    shown!("validity", Style::Number, ""),
+    shown!("serial", Style::Number, ""),
+    shown!("year", Style::Clock, ""),
+    shown!("month", Style::InClock, ""),
+    shown!("day", Style::InClock, ""),
+    shown!("hour", Style::InClock, ""),
+    shown!("minute", Style::InClock, ""),
+    shown!("second", Style::InClock, ""),
+    shown!("hundred microseconds", Style::InClock, ""),
+    shown!("sound speed", Style::Pattern, ""),
+    shown!("temperature", Style::Pattern, ""),
+    shown!("pressure", Style::Pattern, ""),
+    shown!("absolute pressure", Style::Pattern, ""),
+    shown!("heading", Style::Pattern, ""),
+    shown!("pitch", Style::Pattern, ""),
+    shown!("roll", Style::Pattern, ""),
+    shown!("spare", Style::Number, ""),
+    shown!("tail", Style::Number, ""),
+];
+
+const TEXT: [Shown; 3] = [
+    shown!("identifier", Style::Number, ""),
+    shown!("text", Style::Text, ""),
+    shown!("end", Style::Number, ""),
+];
+
+// The fields of a sentence, which are numbered.
+const FIELD: Shown = shown!("field", Style::Text, "");
+
+// A part whose code has no name.
+const OTHER: Shown = shown!("part", Style::Number, "");
+
+fn shown_by(rows: &[Shown], code: u16) -> Shown {
+    match usize::from(code).checked_sub(1) {
+        Some(i) if i < rows.len() => rows[i],
+        _ => OTHER,
     }
 }
 
-fn df7_style(code: u16) -> Style {
-    match code {
-        8 => Style::Clock,
-        9..=14 => Style::InClock,
-        15..=21 => Style::Pattern,
-        _ => Style::Number,
-    }
-}
-
-pub(crate) fn part_style(format: RecordFormat, code: u16) -> Style {
+pub(crate) fn part_shown(format: RecordFormat, code: u16) -> Shown {
     match format {
-        RecordFormat::Df3 => df3_style(code),
-        RecordFormat::Df7 => df7_style(code),
-        RecordFormat::Text if code == 2 => Style::Text,
-        RecordFormat::Sentence => Style::Text,
-        _ => Style::Number,
-    }
-}
-
-// The unit of a part as it is written, empty where it has none.
-pub(crate) fn unit(format: RecordFormat, code: u16) -> &'static str {
-    match format {
-        RecordFormat::Df3 => match code {
-            12 | 26 | 38 => " m/s",
-            13 | 22 | 31 => " °C",
-            14 => " dbar",
-            15 | 16 | 17 => "°",
-            19 | 20 => " m",
-            21 | 40 => "%",
-            23 => " V",
-            30 | 39 => " dB",
-            _ => "",
-        },
-        _ => "",
+        RecordFormat::Df3 => shown_by(&DF3, code),
+        RecordFormat::Df7 => shown_by(&DF7, code),
+        RecordFormat::Text => shown_by(&TEXT, code),
+        RecordFormat::Sentence => FIELD,
+        RecordFormat::Unknown => OTHER,
     }
 }
 
 // Whether a part is an array with an item for each beam and cell.
 pub(crate) fn is_array(format: RecordFormat, code: u16) -> bool {
-    format == RecordFormat::Df3 && code >= 38 && code <= 40
+    format == RecordFormat::Df3 && matches!(code, 38..=40)
 }

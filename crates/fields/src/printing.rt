@@ -1,6 +1,8 @@
 // Prints records: entries, guides, parts and verdicts.
-use crate::names::{Style, format_name, is_array, part_name, part_style, unit};
-use crate::numbers::{print_clock, print_decimal, print_pattern};
+ghost use Rattle.std.specs.Prelude.{◌<◌, IfSome};
+
+use crate::names::{Shown, Style, is_array, part_shown};
+use crate::numbers::{Decimal, print_clock, print_pattern};
 use anyhow::anyhow;
 use common::list::List;
 use common::refusal::Refusal;
@@ -18,12 +20,14 @@ const SCALING: usize = 68;
 
 // A line with the format's name and its guide.
 fn print_guide(out: &mut BufWriter<Stdout>, guide: Guide) -> anyhow::Result<()> {
-    let name = format_name(guide.format);
-    let title = guide.title;
-    let edition = guide.edition;
-    match guide.format {
-        RecordFormat::Unknown => writeln!(out, "  {name}: no guide")?,
-        _ => writeln!(out, "  {name}: {title} ({edition})")?,
+    let Guide {
+        format,
+        title,
+        edition,
+    } = guide;
+    match format {
+        RecordFormat::Unknown => writeln!(out, "  {format}: no guide")?,
+        _ => writeln!(out, "  {format}: {title} ({edition})")?,
     }
     Ok(())
 }
@@ -40,64 +44,67 @@ fn print_byte(out: &mut BufWriter<Stdout>, byte: u8) -> anyhow::Result<()> {
 
 // A blank and the bytes of a part as text; nothing if it has none.
 fn print_text(out: &mut BufWriter<Stdout>, bytes: &[u8], part: Part) -> anyhow::Result<()> {
-    match view(bytes, part) {
-        Ok(text) => {
-            if !text.is_empty() {
-                write!(out, " ")?;
-            }
-            for byte in text {
-                print_byte(out, *byte)?;
-            }
-            Ok(())
-        }
-        Err(_) => Err(anyhow!("a part is outside its record")),
+    let Ok(text) = view(bytes, part) else {
+        return Err(anyhow!("a part is outside its record"));
+    };
+    if !text.is_empty() {
+        write!(out, " ")?;
     }
+    for byte in text {
+        print_byte(out, *byte)?;
+    }
+    Ok(())
 }
 
 // The item of a part as a number.
 fn number_of(bytes: &[u8], part: Part, i: usize) -> anyhow::Result<i64> {
-    match item(bytes, part, i) {
-        Ok(number) => Ok(number),
-        Err(_) => Err(anyhow!("an item is outside its record")),
-    }
+    item(bytes, part, i).map_err(|_| anyhow!("an item is outside its record"))
 }
 
 // The item of a part as a byte.
 fn byte_of(bytes: &[u8], part: Part, i: usize) -> anyhow::Result<u8> {
-    match u8::try_from(number_of(bytes, part, i)?) {
-        Ok(byte) => Ok(byte),
-        Err(_) => Err(anyhow!("an item is no byte")),
-    }
+    u8::try_from(number_of(bytes, part, i)?).map_err(|_| anyhow!("an item is no byte"))
 }
 
 // The exponent of the velocities of a DF3 record.
 fn scaling_of(bytes: &[u8]) -> i8 {
-    if bytes.len() > SCALING {
-        i8::from_le_bytes([bytes[SCALING]])
-    } else {
-        0
+    match bytes.get(SCALING) {
+        Some(b) => i8::from_le_bytes([*b]),
+        None => 0,
     }
 }
 
-// The cells of a DF3 record.
-fn cells_of(bytes: &[u8]) -> usize {
-    if bytes.len() > LAYOUT + 1 {
-        (u16::from_le_bytes([bytes[LAYOUT], bytes[LAYOUT + 1]]) % 1024) as usize
-    } else {
-        0
-    }
+// The cells of a DF3 record, where it has some.
+fn cells_of(bytes: &[u8]) -> Option<usize>
+    ensures { IfSome result (λ cells. 0 < cells) }
+{
+    let Some([low, high, ..]) = bytes.get(LAYOUT..) else {
+        return None;
+    };
+    let cells = usize::from(u16::from_le_bytes([*low, *high]) % 1024);
+    if cells > 0 { Some(cells) } else { None }
 }
 
 // A percentage; no number above 100 is written as one.
 fn print_percent(out: &mut BufWriter<Stdout>, byte: u8) -> anyhow::Result<()> {
-    match Percent::new(byte) {
-        Some(percent) => {
-            let value = percent.value();
-            write!(out, "{value}")?;
-            Ok(())
-        }
-        None => Err(anyhow!("a correlation is above 100")),
-    }
+    let Some(percent) = Percent::new(byte) else {
+        return Err(anyhow!("a correlation is above 100"));
+    };
+    let value = percent.value();
+    write!(out, "{value}")?;
+    Ok(())
+}
+
+// An item as a decimal, in a style that scales it; none in any other style.
+fn decimal_of(style: Style, bytes: &[u8], part: Part, i: usize) -> anyhow::Result<Option<Decimal>> {
+    let (number, exponent) = match style {
+        Style::Scaled(exponent) => (number_of(bytes, part, i)?, exponent),
+        Style::Velocity => (number_of(bytes, part, i)?, scaling_of(bytes)),
+        Style::Halves => (i64::from(byte_of(bytes, part, i)?) * 5, -1),
+        Style::SensorTemperature => (i64::from(byte_of(bytes, part, i)?) * 2 - 40, -1),
+        _ => return Ok(None),
+    };
+    Ok(Some(Decimal { number, exponent }))
 }
 
 // An item, in the part's style.
@@ -108,15 +115,11 @@ fn print_item(
     part: Part,
     i: usize,
 ) -> anyhow::Result<()> {
+    if let Some(decimal) = decimal_of(style, bytes, part, i)? {
+        write!(out, "{decimal}")?;
+        return Ok(());
+    }
     match style {
-        Style::Scaled(exponent) => print_decimal(out, number_of(bytes, part, i)?, exponent),
-        Style::Velocity => print_decimal(out, number_of(bytes, part, i)?, scaling_of(bytes)),
-        Style::Halves => print_decimal(out, byte_of(bytes, part, i)? as i64 * 5, -1),
-        Style::SensorTemperature => print_decimal(
-            out,
-            byte_of(bytes, part, i)? as i64 * 2 - 40,
-            -1,
-        ),
         Style::Percentage => print_percent(out, byte_of(bytes, part, i)?),
         Style::Pattern => print_pattern(out, number_of(bytes, part, i)?),
         _ => {
@@ -130,14 +133,14 @@ fn print_item(
 // The items of a part on one line, each behind a blank.
 fn print_items(
     out: &mut BufWriter<Stdout>,
-    style: Style,
+    shown: Shown,
     bytes: &[u8],
     part: Part,
-    unit: &str,
 ) -> anyhow::Result<()> {
+    let unit = shown.unit;
     for i in 0..part.count {
         write!(out, " ")?;
-        print_item(out, style, bytes, part, i)?;
+        print_item(out, shown.style, bytes, part, i)?;
         write!(out, "{unit}")?;
     }
     Ok(())
@@ -146,31 +149,33 @@ fn print_items(
 // The items of an array, a line for each beam, cell after cell.
 fn print_beams(
     out: &mut BufWriter<Stdout>,
-    style: Style,
+    shown: Shown,
     bytes: &[u8],
     part: Part,
-    unit: &str,
 ) -> anyhow::Result<()> {
-    let cells = cells_of(bytes);
-    if cells == 0 {
+    let unit = shown.unit;
+    let Some(cells) = cells_of(bytes) else {
         return Err(anyhow!("an accepted record has no cells"));
-    }
-    let mut beam = 0u64;
+    };
     for i in 0..part.count {
         if i % cells == 0 {
-            beam = beam.wrapping_add(1);
-            write!(out, "\n    beam {beam}:")?;
+            let before = i / cells;
+            write!(out, "\n    beam {}:", before.saturating_add(1))?;
         }
         write!(out, " ")?;
-        print_item(out, style, bytes, part, i)?;
+        print_item(out, shown.style, bytes, part, i)?;
         write!(out, "{unit}")?;
     }
     Ok(())
 }
 
 // The name and the place of a part; a field of a sentence has its number behind its name.
-fn print_name(out: &mut BufWriter<Stdout>, format: RecordFormat, part: Part) -> anyhow::Result<()> {
-    let name = part_name(format, part.code);
+fn print_name(
+    out: &mut BufWriter<Stdout>,
+    format: RecordFormat,
+    name: &str,
+    part: Part,
+) -> anyhow::Result<()> {
     let code = part.code;
     let place = part.place;
     match format {
@@ -187,20 +192,19 @@ fn print_part(
     bytes: &[u8],
     part: Part,
 ) -> anyhow::Result<()> {
-    let style = part_style(format, part.code);
-    let unit = unit(format, part.code);
-    match style {
+    let shown = part_shown(format, part.code);
+    match shown.style {
         Style::InClock => return Ok(()),
         Style::Clock => return print_clock(out, bytes, part.place),
         _ => {}
     }
-    print_name(out, format, part)?;
-    if style == Style::Text {
+    print_name(out, format, shown.name, part)?;
+    if shown.style == Style::Text {
         print_text(out, bytes, part)?;
     } else if is_array(format, part.code) {
-        print_beams(out, style, bytes, part, unit)?;
+        print_beams(out, shown, bytes, part)?;
     } else {
-        print_items(out, style, bytes, part, unit)?;
+        print_items(out, shown, bytes, part)?;
     }
     writeln!(out, "")?;
     Ok(())
@@ -216,9 +220,8 @@ fn print_parts<G: Format>(
     table: &mut [Part],
 ) -> anyhow::Result<()> {
     let mut parts = List::new(table);
-    match formats.list(kind, bytes, &mut parts) {
-        Ok(()) => {}
-        Err(_) => return Err(anyhow!("the parts of an accepted record are not listed")),
+    if formats.list(kind, bytes, &mut parts).is_err() {
+        return Err(anyhow!("the parts of an accepted record are not listed"));
     }
     for part in parts.as_slice() {
         print_part(out, format, bytes, *part)?;
@@ -226,7 +229,7 @@ fn print_parts<G: Format>(
     Ok(())
 }
 
-// The verdict on a record that is not accepted, in words, with the place of its fault.
+// The verdict on a record that is not accepted, in words, with the place of its fault in the middle, which the text of a refusal has not.
 fn print_verdict(out: &mut BufWriter<Stdout>, entry: Entry) -> anyhow::Result<()> {
     let number = entry.verdict;
     let place = entry.fault;

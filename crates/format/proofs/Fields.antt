@@ -4,10 +4,10 @@ use Rattle.std.proofs.lemmas.List.{length_push}
 use Rattle.common.specs.declared.list.List.{List as ListedIn}
 use Rattle.common.specs.Lists.{items, room}
 use Rattle.format.specs.declared.format.Part.{Part}
-use Rattle.format.specs.Added.{Added}
+use Rattle.common.specs.Added.{Added}
 use Rattle.format.specs.Text.{plain}
 use Rattle.format.specs.Sentence.{fields, commas}
-use Rattle.format.proofs.Additions.{added_more}
+use Rattle.common.proofs.Additions.{added_more}
 use Rattle.format.proofs.Commas.{commas-comma, commas-other, fields-comma, fields-other}
 
 -- where a walk over the text stands at byte i, with a field begun: some are added, and the text from i on has the others

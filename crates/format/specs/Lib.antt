@@ -1,5 +1,6 @@
 pub mod Meaning
-pub mod Added
+pub mod Defects
+pub mod Faults
 pub mod Text
 pub mod Sentence
 pub mod Items

@@ -3,19 +3,30 @@ use Rattle.std.specs.Prelude.{◌≡◌, ℕ, ◌+◌, ◌*◌, ◌<◌, ◌≤�
 use Rattle.common.specs.declared.list.List.{List as ListedIn}
 use Rattle.common.specs.declared.refusal.Refusal.{Refusal}
 use Rattle.common.specs.Lists.{items, room}
+use Rattle.common.specs.Tables.{SameTable}
 use Rattle.format.specs.declared.format.Part.{Part}
-use Rattle.format.specs.declared.format.Judgement.{Judgement}
+use Rattle.format.specs.declared.format.RecordFault.{RecordFault}
 use Rattle.format.specs.declared.format.PartsFault.{PartsFault}
 use Rattle.format.specs.declared.format.PartsFault.TheVariants.{Judged, TableShort}
 
--- of a kind and a record's bytes: whether the format claims the record, its verdict, which is 0 or a number with a place, and its parts
+-- of a kind and a record's bytes: whether the format claims the record, its verdict, which accepts the record or tells a fault, and its parts
 pub record Meaning : Type 0 where
   pub claims : Bool
-  pub judgement : Judgement
+  pub judgement : Result (Unit {0}) RecordFault
   pub parts : List Part
 
-abbrev pub judged : ℕ → ℕ → Judgement
-judged n p = record { number = n; place = p }
+-- the verdict that tells a fault, by its number and its place
+abbrev pub judged : ℕ → ℕ → Result (Unit {0}) RecordFault
+judged n p = Err (record { number = n; place = p })
+
+-- the number and the place of a verdict, both 0 where the record is accepted
+abbrev pub verdict_number : Result (Unit {0}) RecordFault → ℕ
+verdict_number (Ok _) = 0
+verdict_number (Err f) = f.number
+
+abbrev pub fault_place : Result (Unit {0}) RecordFault → ℕ
+fault_place (Ok _) = 0
+fault_place (Err f) = f.place
 
 -- of a record that the format does not claim
 abbrev pub unclaimed : Meaning
@@ -26,7 +37,7 @@ abbrev pub faulty : ℕ → ℕ → Meaning
 faulty n p = record { claims = true; judgement = judged n p; parts = [] }
 
 abbrev pub accepted : List Part → Meaning
-accepted ps = record { claims = true; judgement = judged 0 0; parts = ps }
+accepted ps = record { claims = true; judgement = Ok tt; parts = ps }
 
 -- how many bytes a part has, and which
 abbrev pub size : Part → ℕ
@@ -63,32 +74,31 @@ pub record Laws (meaning : ℕ → List ℕ → Meaning) : Type 0 where
   pub other : (kind : ℕ) (s : List ℕ) → (meaning kind s).claims ≡ false → meaning kind s ≡ unclaimed
   -- no kind 1 record under ten bytes is claimed
   pub header : (s : List ℕ) → length s < data_place → (meaning 1 s).claims ≡ false
-  -- a verdict is a 16-bit number, and a fault's place is inside the record
-  pub number : (kind : ℕ) (s : List ℕ) → (meaning kind s).judgement.number < 65536
-  pub inside : (kind : ℕ) (s : List ℕ) → (meaning kind s).claims ≡ true → ((meaning kind s).judgement.number ≢ 0)
-      → (meaning kind s).judgement.place < length s
-  -- an accepted record names no place, and has parts
-  pub nowhere : (kind : ℕ) (s : List ℕ) → (meaning kind s).judgement.number ≡ 0 → (meaning kind s).judgement.place ≡ 0
-  pub lists : (kind : ℕ) (s : List ℕ) → (meaning kind s).judgement.number ≡ 0 → Accepted kind s (meaning kind s).parts
+  -- a fault's number has 16 bits and is not 0, and its place is inside a record that is claimed
+  pub number : (kind : ℕ) (s : List ℕ) (f : RecordFault) → (meaning kind s).judgement ≡ Err f → (f.number ≢ 0) × (f.number < 65536)
+  pub inside : (kind : ℕ) (s : List ℕ) (f : RecordFault) → (meaning kind s).judgement ≡ Err f → (meaning kind s).claims ≡ true → f.place < length s
+  -- an accepted record has parts
+  pub lists : (kind : ℕ) (s : List ℕ) → (meaning kind s).judgement ≡ Ok tt → Accepted kind s (meaning kind s).parts
 
 -- the first meaning, and the second where the first does not claim the record
 abbrev pub or_else : Meaning → Meaning → Meaning
 or_else m n = cond m.claims m n
 
 -- the answer to a listing of the parts behind `filled` items in a table with room for `all`
-abbrev pub listing : Meaning → ℕ → ℕ → Result (Unit {0}) PartsFault
-listing m filled all =
-    cond (m.judgement.number == 0)
-    (cond (nat_le (filled + length m.parts) all) (Ok tt) (Err TableShort))
-    (Err (Judged m.judgement.number m.judgement.place))
+abbrev pub listing_of : Result (Unit {0}) RecordFault → Bool → Result (Unit {0}) PartsFault
+listing_of (Ok _) fits = cond fits (Ok tt) (Err TableShort)
+listing_of (Err f) fits = Err (Judged f)
 
--- what a listing leaves: the parts behind what was there, or everything as it was
+abbrev pub listing : Meaning → ℕ → ℕ → Result (Unit {0}) PartsFault
+listing m filled all = listing_of m.judgement (nat_le (filled + length m.parts) all)
+
+-- what a listing leaves: the parts behind what was there, or everything as it was, over the same table
 pub record Leaves (m : Meaning) (before after : ListedIn Part) (r : Result (Unit {0}) PartsFault) : Type 0 where
   pub says : r ≡ listing m (length (items before)) (room before)
   pub holds : items after ≡ items before ++ cond (is_ok r) m.parts []
-  pub rest : drop (length (items after)) after.table.now ≡ drop (length (items after)) before.table.now
+  pub table : SameTable before after
 
 -- the numbers of the answers: the record's own, or 20 where the table is too short
 abbrev pub told : PartsFault → Refusal
-told (Judged n p) = record { number = n; layer = 2; place = p }
+told (Judged f) = record { number = f.number; layer = 2; place = f.place }
 told TableShort = record { number = 20; layer = 2; place = 0 }

@@ -1,5 +1,5 @@
 -- The laws of a pair of formats. Assumes nothing.
-use Rattle.std.specs.Prelude.{◌≡◌, ℕ, ◌<◌, true, false, List, length, ◌≢◌}
+use Rattle.std.specs.Prelude.{◌≡◌, ℕ, ◌<◌, true, false, List, length, Ok, Err, ◌≢◌}
 use Rattle.std.proofs.lemmas.Bool.{cond_both}
 use Rattle.format.specs.Meaning.{Meaning, Laws, Accepted, or_else, unclaimed}
 
@@ -12,9 +12,7 @@ module _ {v w : ℕ → List ℕ → Meaning} (first : Laws v) (second : Laws w)
   pair_lawful = record {
     other = λ k s. either (λ m. m.claims ≡ false → m ≡ unclaimed) (v k s) (w k s) (λ _. first.other k s) (λ _. second.other k s);
     header = λ s l. either (λ m. m.claims ≡ false) (v 1 s) (w 1 s) (λ _. first.header s l) (λ _. second.header s l);
-    number = λ k s. either (λ m. m.judgement.number < 65536) (v k s) (w k s) (λ _. first.number k s) (λ _. second.number k s);
-    inside = λ k s. either (λ m. m.claims ≡ true → (m.judgement.number ≢ 0) → m.judgement.place < length s) (v k s) (w k s)
-        (λ _. first.inside k s) (λ _. second.inside k s);
-    nowhere = λ k s. either (λ m. m.judgement.number ≡ 0 → m.judgement.place ≡ 0) (v k s) (w k s) (λ _. first.nowhere k s) (λ _. second.nowhere k s);
-    lists = λ k s. either (λ m. m.judgement.number ≡ 0 → Accepted k s m.parts) (v k s) (w k s) (λ _. first.lists k s) (λ _. second.lists k s);
+    number = λ k s f. either (λ m. m.judgement ≡ Err f → (f.number ≢ 0) × (f.number < 65536)) (v k s) (w k s) (λ _. first.number k s f) (λ _. second.number k s f);
+    inside = λ k s f. either (λ m. m.judgement ≡ Err f → m.claims ≡ true → f.place < length s) (v k s) (w k s) (λ _. first.inside k s f) (λ _. second.inside k s f);
+    lists = λ k s. either (λ m. m.judgement ≡ Ok tt → Accepted k s m.parts) (v k s) (w k s) (λ _. first.lists k s) (λ _. second.lists k s);
   }

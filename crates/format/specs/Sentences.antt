@@ -1,9 +1,10 @@
 -- The laws of sentences: how many fields there are, where they lie, and where a comma too many stands. Assumes nothing.
-use Rattle.std.specs.Prelude.{◌≡◌, ℕ, zero, suc, ◌+◌, ◌*◌, ◌<◌, ◌≤◌, Bool, true, false, cond, List, [], ◌∷◌, length, drop, Some, None, Option, ◌==◌, ◌≢◌, nat_le, refl}
-use Rattle.std.proofs.Common.{arith, length-drop}
+use Rattle.std.specs.Prelude.{◌≡◌, ℕ, zero, suc, ◌+◌, ◌*◌, ◌<◌, ◌≤◌, Bool, true, false, cond, List, [], ◌∷◌, length, drop, Some, None, Ok, Err, Option, ◌==◌, ◌≢◌, nat_le, refl}
+use Rattle.std.proofs.Common.{sym, arith, length-drop}
 use Rattle.std.proofs.lemmas.Bool.{cond_both, true≢false, false≢true, and_parts, eqb-true, leb-true}
 use Rattle.format.specs.declared.format.Part.{Part}
 use Rattle.format.specs.Meaning.{Meaning, Laws, Accepted, InOrder, unclaimed, faulty, accepted}
+use Rattle.format.specs.Faults.{not_both, number_right, place_right}
 use Rattle.format.specs.Text.{plain}
 use Rattle.format.specs.Sentence.{fields, commas, comma_at, sentence_claims, with_comma, sentence_meaning}
 
@@ -79,10 +80,10 @@ module _ (kind : ℕ) (s : List ℕ) where
           let tests = and_parts (kind == 2) _ e in
           by_comma (comma_at 63 1 (drop 1 s)) refl (eqb-true kind 2 tests.0) (leb-true 1 (length s) (and_parts (nat_le 1 (length s)) _ tests.1).0)
 
-  pub sentence_accepted : (sentence_meaning kind s).judgement.number ≡ 0 → (sentence_meaning kind s ≡ accepted found) × (commas (drop 1 s) ≤ 63)
+  pub sentence_accepted : (sentence_meaning kind s).judgement ≡ Ok tt → (sentence_meaning kind s ≡ accepted found) × (commas (drop 1 s) ≤ 63)
   sentence_accepted =
-      ways (λ m. m.judgement.number ≡ 0 → (m ≡ accepted found) × (commas (drop 1 s) ≤ 63))
-      (λ _ _ few _. (refl, few)) (λ _ _ _ e. absurd (omega arith)) (λ e. absurd (omega arith))
+      ways (λ m. m.judgement ≡ Ok tt → (m ≡ accepted found) × (commas (drop 1 s) ≤ 63))
+      (λ _ _ few _. (refl, few)) (λ _ _ _ e. not_both (sym e)) (λ e. not_both (sym e))
 
   sentence_lists : kind ≡ 2 → 1 ≤ length s → commas (drop 1 s) ≤ 63 → Accepted kind s found
   sentence_lists two long few = record {
@@ -96,10 +97,10 @@ pub sentence_lawful : Laws sentence_meaning
 sentence_lawful = record {
   other = λ k s. ways k s (λ m. m.claims ≡ false → m ≡ unclaimed) (λ _ _ _ e. absurd (true≢false e)) (λ _ _ _ e. absurd (true≢false e)) (λ _. refl);
   header = λ s short. ways 1 s (λ m. m.claims ≡ false) (λ two _ _. absurd (omega arith)) (λ two _ _. absurd (omega arith)) refl;
-  number = λ k s. ways k s (λ m. m.judgement.number < 65536) (λ _ _ _. omega arith) (λ _ _ _. omega arith) (omega arith);
-  inside = λ k s. ways k s (λ m. m.claims ≡ true → (m.judgement.number ≢ 0) → m.judgement.place < length s)
-      (λ _ _ _ _ bad. absurd (bad refl)) (λ _ q l _ _. l) (λ e _. absurd (false≢true e));
-  nowhere = λ k s. ways k s (λ m. m.judgement.number ≡ 0 → m.judgement.place ≡ 0) (λ _ _ _ _. refl) (λ _ _ _ e. absurd (omega arith)) (λ e. absurd (omega arith));
-  lists = λ k s. ways k s (λ m. m.judgement.number ≡ 0 → Accepted k s m.parts) (λ two long few _. sentence_lists k s two long few)
-      (λ _ _ _ e. absurd (omega arith)) (λ e. absurd (omega arith));
+  number = λ k s f. ways k s (λ m. m.judgement ≡ Err f → (f.number ≢ 0) × (f.number < 65536)) (λ _ _ _ e. not_both e)
+      (λ _ q _. number_right 19 q f (λ z. omega arith) (omega arith)) (number_right 10 0 f (λ z. omega arith) (omega arith));
+  inside = λ k s f. ways k s (λ m. m.judgement ≡ Err f → m.claims ≡ true → f.place < length s) (λ _ _ _ e _. not_both e)
+      (λ _ q l e _. place_right 19 q (length s) f l e) (λ _ e. absurd (false≢true e));
+  lists = λ k s. ways k s (λ m. m.judgement ≡ Ok tt → Accepted k s m.parts) (λ two long few _. sentence_lists k s two long few)
+      (λ _ _ _ e. not_both (sym e)) (λ e. not_both (sym e));
 }

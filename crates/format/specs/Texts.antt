@@ -1,9 +1,10 @@
 -- The laws of string records. Assumes nothing.
-use Rattle.std.specs.Prelude.{◌≡◌, ℕ, ◌+◌, ◌-◌, ◌*◌, ◌<◌, ◌≤◌, true, false, List, [], ◌∷◌, ◌++◌, length, take, drop, ◌==◌, ◌≢◌, nat_le, nat_lt, refl}
+use Rattle.std.specs.Prelude.{◌≡◌, ℕ, ◌+◌, ◌-◌, ◌*◌, ◌<◌, ◌≤◌, true, false, List, [], ◌∷◌, ◌++◌, length, take, drop, Ok, Err, ◌==◌, ◌≢◌, nat_le, nat_lt, refl}
 use Rattle.std.proofs.Common.{sym, ap, ◌∙◌, arith, take-append-drop}
 use Rattle.std.proofs.lemmas.List.{drop-drop, drop_all}
 use Rattle.std.proofs.lemmas.Bool.{cond_both, true≢false, false≢true, and_parts, leb-true, ltb-true}
 use Rattle.format.specs.Meaning.{Meaning, Laws, Accepted, unclaimed, faulty, accepted}
+use Rattle.format.specs.Faults.{not_both, number_right, place_right}
 use Rattle.format.specs.Text.{plain, ends_zero, text_parts, text_claims, text_meaning}
 
 module _ (kind : ℕ) (s : List ℕ) where
@@ -18,8 +19,8 @@ module _ (kind : ℕ) (s : List ℕ) where
       (λ _. bad (leb-true 10 (length s) (and_parts (nat_le 10 (length s)) _ (and_parts (kind == 1) _ e).1).0)))
       (λ _. other)
 
-  pub text_accepted : (text_meaning kind s).judgement.number ≡ 0 → text_meaning kind s ≡ accepted (text_parts s)
-  text_accepted = ways (λ m. m.judgement.number ≡ 0 → m ≡ accepted (text_parts s)) (λ _ _. refl) (λ _ e. absurd (omega arith)) (λ e. absurd (omega arith))
+  pub text_accepted : (text_meaning kind s).judgement ≡ Ok tt → text_meaning kind s ≡ accepted (text_parts s)
+  text_accepted = ways (λ m. m.judgement ≡ Ok tt → m ≡ accepted (text_parts s)) (λ _ _. refl) (λ _ e. not_both (sym e)) (λ e. not_both (sym e))
 
   -- a piece in front of what follows it
   piece : (from size to : ℕ) (t : List ℕ) → from + size ≡ to → t ≡ drop to s → take size (drop from s) ++ t ≡ drop from s
@@ -50,9 +51,9 @@ pub text_lawful : Laws text_meaning
 text_lawful = record {
   other = λ k s. ways k s (λ m. m.claims ≡ false → m ≡ unclaimed) (λ _ e. absurd (true≢false e)) (λ _ e. absurd (true≢false e)) (λ _. refl);
   header = λ s short. ways 1 s (λ m. m.claims ≡ false) (λ l. absurd (omega arith)) (λ l. absurd (omega arith)) refl;
-  number = λ k s. ways k s (λ m. m.judgement.number < 65536) (λ _. omega arith) (λ _. omega arith) (omega arith);
-  inside = λ k s. ways k s (λ m. m.claims ≡ true → (m.judgement.number ≢ 0) → m.judgement.place < length s)
-      (λ _ _ bad. absurd (bad refl)) (λ l _ _. omega arith) (λ e _. absurd (false≢true e));
-  nowhere = λ k s. ways k s (λ m. m.judgement.number ≡ 0 → m.judgement.place ≡ 0) (λ _ _. refl) (λ _ e. absurd (omega arith)) (λ e. absurd (omega arith));
-  lists = λ k s. ways k s (λ m. m.judgement.number ≡ 0 → Accepted k s m.parts) (λ l _. text_lists k s l) (λ _ e. absurd (omega arith)) (λ e. absurd (omega arith));
+  number = λ k s f. ways k s (λ m. m.judgement ≡ Err f → (f.number ≢ 0) × (f.number < 65536)) (λ _ e. not_both e)
+      (λ _. number_right 18 4 f (λ z. omega arith) (omega arith)) (number_right 10 0 f (λ z. omega arith) (omega arith));
+  inside = λ k s f. ways k s (λ m. m.judgement ≡ Err f → m.claims ≡ true → f.place < length s) (λ _ e _. not_both e)
+      (λ l e _. place_right 18 4 (length s) f (omega arith) e) (λ _ e. absurd (false≢true e));
+  lists = λ k s. ways k s (λ m. m.judgement ≡ Ok tt → Accepted k s m.parts) (λ l _. text_lists k s l) (λ _ e. not_both (sym e)) (λ e. not_both (sym e));
 }

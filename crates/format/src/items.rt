@@ -4,7 +4,7 @@ ghost use Rattle.std.specs.Int.{w8, w16, w32};
 ghost use Rattle.std.proofs.Common.{to_z};
 ghost use Rattle.common.specs.declared.refusal.Refusal.{Refusal};
 ghost use Rattle.format.specs.Meaning.{size, bytes_of};
-ghost use Rattle.format.specs.Items.{inside, value, readable, item_bytes, item_of, told};
+ghost use Rattle.format.specs.Items.{inside, value, number_in, item_of, told};
 
 use crate::format::Part;
 use common::refusal::Refusal;
@@ -18,11 +18,11 @@ pub enum ItemFault {
     NoItem,
 }
 
-impl ItemFault {
-    pub fn refusal(self) -> Refusal
-        ensures { result ≡ told self }
-    {
-        let number = match self {
+impl From<ItemFault> for Refusal {
+    ghost from_gives = { λ f r. r ≡ told f };
+
+    fn from(fault: ItemFault) -> Refusal {
+        let number = match fault {
             ItemFault::Outside => 21,
             ItemFault::NoItem => 22,
         };
@@ -53,68 +53,30 @@ pub fn view(bytes: &[u8], part: Part) -> Result<&[u8], ItemFault>
     Ok(&bytes[start..end])
 }
 
-// The numbers that 1, 2 and 4 bytes are, the lowest first; two's complement where they are signed.
-fn one_byte(a: u8, signed: bool) -> i64
-    ensures { result ≡ (if signed then to_z w8 a else pos a) }
+// The number that 1, 2 or 4 bytes are, the lowest first; two's complement where it is signed.
+fn read_number(bytes: &[u8], signed: bool) -> Option<i64>
+    ensures { result ≡ number_in signed bytes.now }
 {
-    if signed {
-        i8::from_le_bytes([a]) as i64
-    } else {
-        a as i64
+    match *bytes {
+        [a] if signed => Some(i64::from(i8::from_le_bytes([a]))),
+        [a] => Some(i64::from(a)),
+        [a, b] if signed => Some(i64::from(i16::from_le_bytes([a, b]))),
+        [a, b] => Some(i64::from(u16::from_le_bytes([a, b]))),
+        [a, b, c, d] if signed => Some(i64::from(i32::from_le_bytes([a, b, c, d]))),
+        [a, b, c, d] => Some(i64::from(u32::from_le_bytes([a, b, c, d]))),
+        _ => None,
     }
-}
-
-fn two_bytes(a: u8, b: u8, signed: bool) -> i64
-    ensures { result ≡ (if signed then to_z w16 (a + b * 256) else pos (a + b * 256)) }
-{
-    if signed {
-        i16::from_le_bytes([a, b]) as i64
-    } else {
-        u16::from_le_bytes([a, b]) as i64
-    }
-}
-
-fn four_bytes(bytes: [u8; 4], signed: bool) -> i64
-    ensures { result ≡ (if signed then to_z w32 (slice_index bytes 0 + slice_index bytes 1 * 256 + slice_index bytes 2 * 65536 + slice_index bytes 3 * 16777216) else pos (slice_index bytes 0 + slice_index bytes 1 * 256 + slice_index bytes 2 * 65536 + slice_index bytes 3 * 16777216)) }
-{
-    if signed {
-        i32::from_le_bytes(bytes) as i64
-    } else {
-        u32::from_le_bytes(bytes) as i64
-    }
-}
-
-fn read_number(bytes: &[u8], signed: bool) -> i64
-    requires { (length bytes.now ≡ 1) ⊎ ((length bytes.now ≡ 2) ⊎ (length bytes.now ≡ 4)) }
-    ensures { result ≡ value signed bytes.now }
-{
-    if bytes.len() == 1 {
-        return one_byte(bytes[0], signed);
-    }
-    if bytes.len() == 2 {
-        return two_bytes(bytes[0], bytes[1], signed);
-    }
-    four_bytes([bytes[0], bytes[1], bytes[2], bytes[3]], signed)
-}
-
-// Whether a part has an item that is a number of 1, 2 or 4 bytes.
-fn has_number(part: Part, i: usize) -> bool
-    ensures { result ≡ readable part i }
-{
-    (part.width == 1 || part.width == 2 || part.width == 4) && i < part.count
 }
 
 // An item of a part, counted from 0, as a number.
 pub fn item(bytes: &[u8], part: Part, i: usize) -> Result<i64, ItemFault>
     ensures { result ≡ item_of bytes.now part i }
 {
-    if !lies_inside(part, bytes.len()) {
-        return Err(ItemFault::Outside);
-    }
-    if !has_number(part, i) {
+    let items = view(bytes, part)?;
+    if i >= part.count {
         return Err(ItemFault::NoItem);
     }
     let width = part.width as usize;
-    let start = part.place + width * i;
-    Ok(read_number(&bytes[start..start + width], part.signed))
+    let start = width * i;
+    read_number(&items[start..start + width], part.signed).ok_or(ItemFault::NoItem)
 }

@@ -2,15 +2,9 @@
 ghost use Rattle.format.specs.Meaning.{or_else};
 ghost use Rattle.format.specs.Pairs.{pair_lawful};
 
-use crate::format::{Format, Judgement, Part, PartsFault};
+use crate::format::{Format, Part, PartsFault, RecordFault};
 use common::list::List;
-
-// The first format where it claims the record, and the second where it does not.
-#[derive(Clone, Copy, Drop, Debug)]
-pub struct Pair<A, B> {
-    pub first: A,
-    pub second: B,
-}
+use common::pair::Pair;
 
 impl<A: Format, B: Format> Format for Pair<A, B> {
     ghost meaning = { λ f k s. or_else (A.Format.meaning f.first k s) (B.Format.meaning f.second k s) };
@@ -21,7 +15,7 @@ impl<A: Format, B: Format> Format for Pair<A, B> {
         self.first.claims(kind, bytes) || self.second.claims(kind, bytes)
     }
 
-    fn judge(&self, kind: u8, bytes: &[u8]) -> Judgement {
+    fn judge(&self, kind: u8, bytes: &[u8]) -> Result<(), RecordFault> {
         if self.first.claims(kind, bytes) {
             self.first.judge(kind, bytes)
         } else {

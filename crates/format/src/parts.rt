@@ -2,7 +2,7 @@
 ghost use Rattle.std.specs.Prelude.{◌≡◌, ◌<◌, [], ◌∷◌, length};
 ghost use Rattle.common.specs.Lists.{items, room};
 ghost use Rattle.format.specs.Meaning.{Leaves, accepted};
-ghost use Rattle.format.specs.Added.{Added};
+ghost use Rattle.common.specs.Added.{Added};
 ghost use Rattle.format.specs.Text.{plain};
 
 use crate::format::{Part, PartsFault};
@@ -31,14 +31,8 @@ pub(crate) fn add(part: Part, out: &mut List<'_, Part>)
 
 // Puts parts behind the others, or none of them where the table has not room for all.
 pub(crate) fn add_all(parts: &[Part], out: &mut List<'_, Part>) -> Result<(), PartsFault>
-    ensures leaves { Leaves (accepted parts.now) out.old out.new result }
-    ensures lends { out.new.table.ghost_name ≡ out.old.table.ghost_name }
+    ensures { Leaves (accepted parts.now) out.old out.new result }
 {
-    if out.room() - out.len() < parts.len() {
-        return Err(PartsFault::TableShort);
-    }
-    for part in parts {
-        add(*part, out);
-    }
+    out.extend_from_slice(parts)?;
     Ok(())
 }

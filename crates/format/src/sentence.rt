@@ -2,11 +2,12 @@
 ghost use Rattle.std.specs.Prelude.{◌≡◌, ◌+◌, ◌≤◌, length, drop};
 ghost use Rattle.common.specs.Lists.{items, room};
 ghost use Rattle.format.specs.Meaning.{Leaves, accepted};
-ghost use Rattle.format.specs.Added.{Added};
+ghost use Rattle.common.specs.Added.{Added};
 ghost use Rattle.format.specs.Sentence.{has_star, fields, commas, comma_at, sentence_claims, sentence_meaning};
 ghost use Rattle.format.specs.Sentences.{sentence_lawful};
 
-use crate::format::{Format, Judgement, Part, PartsFault};
+use crate::defect::Defect;
+use crate::format::{Format, Part, PartsFault, RecordFault};
 use crate::parts::{add, plain_part};
 use common::list::List;
 
@@ -73,21 +74,15 @@ fn behind_dollar(bytes: &[u8]) -> &[u8]
     &bytes[1..]
 }
 
-fn judge_sentence(kind: u8, bytes: &[u8]) -> Judgement
+fn judge_sentence(kind: u8, bytes: &[u8]) -> Result<(), RecordFault>
     ensures { result ≡ (sentence_meaning kind bytes.now).judgement }
 {
     if !is_sentence(kind, bytes) {
-        return Judgement {
-            number: 10,
-            place: 0,
-        };
+        return Err(Defect::Unclaimed.at(0));
     }
     match last_comma(behind_dollar(bytes)) {
-        None => Judgement {
-            number: 0,
-            place: 0,
-        },
-        Some(place) => Judgement { number: 19, place },
+        None => Ok(()),
+        Some(place) => Err(Defect::ManyFields.at(place)),
     }
 }
 
@@ -113,8 +108,7 @@ fn add_fields(text: &[u8], out: &mut List<'_, Part>)
 // The fields of a text that has not too many.
 fn list_fields(text: &[u8], out: &mut List<'_, Part>) -> Result<(), PartsFault>
     requires { commas text.now ≤ 63 }
-    ensures leaves { Leaves (accepted (fields 1 1 0 text.now)) out.old out.new result }
-    ensures lends { out.new.table.ghost_name ≡ out.old.table.ghost_name }
+    ensures { Leaves (accepted (fields 1 1 0 text.now)) out.old out.new result }
 {
     if out.room() - out.len() <= comma_count(text) {
         return Err(PartsFault::TableShort);
@@ -132,18 +126,13 @@ impl Format for SentenceFields {
         is_sentence(kind, bytes)
     }
 
-    fn judge(&self, kind: u8, bytes: &[u8]) -> Judgement {
+    fn judge(&self, kind: u8, bytes: &[u8]) -> Result<(), RecordFault> {
         judge_sentence(kind, bytes)
     }
 
+    #[tactic(auto, using(crate::specs::Sentences::sentence_accepted))]
     fn list(&self, kind: u8, bytes: &[u8], out: &mut List<'_, Part>) -> Result<(), PartsFault> {
-        let verdict = judge_sentence(kind, bytes);
-        if verdict.number != 0 {
-            return Err(PartsFault::Judged {
-                number: verdict.number,
-                place: verdict.place,
-            });
-        }
+        judge_sentence(kind, bytes)?;
         list_fields(behind_dollar(bytes), out)
     }
 }

@@ -4,7 +4,8 @@ ghost use Rattle.format.specs.Meaning.{Leaves, accepted};
 ghost use Rattle.format.specs.Text.{text_claims, text_meaning, text_parts, ends_zero};
 ghost use Rattle.format.specs.Texts.{text_lawful};
 
-use crate::format::{Format, Judgement, Part, PartsFault};
+use crate::defect::Defect;
+use crate::format::{Format, Part, PartsFault, RecordFault};
 use crate::parts::{add_all, plain_part};
 use common::list::List;
 
@@ -24,26 +25,16 @@ fn is_text(kind: u8, bytes: &[u8]) -> bool
     kind == KIND && bytes.len() >= HEADER && bytes[2] == SERIES
 }
 
-fn judge_text(kind: u8, bytes: &[u8]) -> Judgement
+fn judge_text(kind: u8, bytes: &[u8]) -> Result<(), RecordFault>
     ensures { result ≡ (text_meaning kind bytes.now).judgement }
 {
     if !is_text(kind, bytes) {
-        return Judgement {
-            number: 10,
-            place: 0,
-        };
+        return Err(Defect::Unclaimed.at(0));
     }
-    if bytes.len() > HEADER {
-        Judgement {
-            number: 0,
-            place: 0,
-        }
-    } else {
-        Judgement {
-            number: 18,
-            place: 4,
-        }
+    if bytes.len() <= HEADER {
+        return Err(Defect::NoData.at(4));
     }
+    Ok(())
 }
 
 fn has_zero_end(bytes: &[u8]) -> bool
@@ -55,8 +46,7 @@ fn has_zero_end(bytes: &[u8]) -> bool
 // The parts of a record that has an identifier byte.
 fn list_text(bytes: &[u8], out: &mut List<'_, Part>) -> Result<(), PartsFault>
     requires { 10 < length bytes.now }
-    ensures leaves { Leaves (accepted (text_parts bytes.now)) out.old out.new result }
-    ensures lends { out.new.table.ghost_name ≡ out.old.table.ghost_name }
+    ensures { Leaves (accepted (text_parts bytes.now)) out.old out.new result }
 {
     let identifier = plain_part(1, 10, 1);
     let len = bytes.len();
@@ -82,18 +72,12 @@ impl Format for Text {
         is_text(kind, bytes)
     }
 
-    fn judge(&self, kind: u8, bytes: &[u8]) -> Judgement {
+    fn judge(&self, kind: u8, bytes: &[u8]) -> Result<(), RecordFault> {
         judge_text(kind, bytes)
     }
 
     fn list(&self, kind: u8, bytes: &[u8], out: &mut List<'_, Part>) -> Result<(), PartsFault> {
-        let verdict = judge_text(kind, bytes);
-        if verdict.number != 0 {
-            return Err(PartsFault::Judged {
-                number: verdict.number,
-                place: verdict.place,
-            });
-        }
+        judge_text(kind, bytes)?;
         list_text(bytes, out)
     }
 }

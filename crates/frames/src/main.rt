@@ -1,11 +1,11 @@
 // Lists the frames of a stream on standard input, and how many bytes are in frames and passed over.
 #![tactic(auto)]
 
+use common::pair::Pair;
 use console::{read_all, starts};
 use framing::binary::Binary;
-use framing::pair::Pair;
 use framing::sentence::Sentence;
-use reading::listing::{frame_text, list_frames, totals_text};
+use reading::listing::list_frames;
 use std::io::{BufWriter, Write};
 
 const USAGE: &str = "usage: frames < FILE
@@ -25,11 +25,9 @@ fn run(rt: &HostRuntime) -> anyhow::Result<()> {
     let listing = list_frames(heap, &framing, &bytes)?;
     let mut out = BufWriter::new(heap, rt.stdout())?;
     for frame in listing.frames.iter() {
-        let text = frame_text(heap, *frame)?;
-        writeln!(out, "{text}")?;
+        writeln!(out, "{frame}")?;
     }
-    let text = totals_text(heap, &listing)?;
-    writeln!(out, "{text}")?;
+    writeln!(out, "{listing}")?;
     out.flush()?;
     Ok(())
 }

@@ -4,37 +4,22 @@ use Rattle.std.proofs.lemmas.List.{drop-take, get_or-take, take_at}
 use Rattle.std.proofs.lemmas.Bool.{and_parts, and_from, le-leb, eqb-true, eq-eqb}
 use Rattle.framing.specs.declared.verdict.Verdict.TheVariants.{NoFrame, Frame}
 use Rattle.framing.specs.Checksum.{checksum}
-use Rattle.framing.specs.Plan.{frame, given, judged}
+use Rattle.framing.specs.Plan.{frame, judged}
 use Rattle.framing.specs.Binary.{binary, header, body, headed, word, bytes_of, header_front, header_of, Framed, ExactlyFrames}
-use Rattle.framing.specs.Plans.{await_frame, given_frame}
 use Rattle.framing.specs.BinaryPlan.{after_sync, binary_data, headed_size}
-use Rattle.framing.specs.Plans.{frame_len, frame_kind}
+use Rattle.framing.specs.Plans.{frame_len, frame_kind, step_frame}
+use Rattle.framing.proofs.Listed.{reads, reads_are}
 
 checksum_small : (s : List ℕ) → checksum s < 65536
 unfolding checksum
 checksum_small s = omega arith
-
--- ten bytes, one by one
-ten : (s : List ℕ) → 10 ≤ length s
-    → take 10 s ≡ get_or s 0 0 ∷ (get_or s 1 0 ∷ (get_or s 2 0 ∷ (get_or s 3 0 ∷ (get_or s 4 0 ∷ (get_or s 5 0 ∷ (get_or s 6 0 ∷ (get_or s 7 0 ∷ (get_or s 8 0 ∷ (get_or s 9 0 ∷ [])))))))))
-ten (a ∷ (b ∷ (c ∷ (d ∷ (e ∷ (f ∷ (g ∷ (h ∷ (i ∷ (j ∷ s)))))))))) l = refl
-ten [] l = absurd (omega arith)
-ten (a ∷ []) l = absurd (omega arith)
-ten (a ∷ (b ∷ [])) l = absurd (omega arith)
-ten (a ∷ (b ∷ (c ∷ []))) l = absurd (omega arith)
-ten (a ∷ (b ∷ (c ∷ (d ∷ [])))) l = absurd (omega arith)
-ten (a ∷ (b ∷ (c ∷ (d ∷ (e ∷ []))))) l = absurd (omega arith)
-ten (a ∷ (b ∷ (c ∷ (d ∷ (e ∷ (f ∷ [])))))) l = absurd (omega arith)
-ten (a ∷ (b ∷ (c ∷ (d ∷ (e ∷ (f ∷ (g ∷ []))))))) l = absurd (omega arith)
-ten (a ∷ (b ∷ (c ∷ (d ∷ (e ∷ (f ∷ (g ∷ (h ∷ [])))))))) l = absurd (omega arith)
-ten (a ∷ (b ∷ (c ∷ (d ∷ (e ∷ (f ∷ (g ∷ (h ∷ (i ∷ []))))))))) l = absurd (omega arith)
 
 -- a word of two bytes, taken apart again
 parts : (low high n : ℕ) → low < 256 → low + 256 * high ≡ n → low ∷ (high ∷ []) ≡ bytes_of n
 parts low high n l e =
     let a : low ≡ n % 256 = omega arith in
     let b : high ≡ n / 256 = omega arith in
-    ap (λ x. x ∷ (high ∷ [])) a ∙ ap (λ x. n % 256 ∷ (x ∷ [])) b
+    cc
 
 -- a word put together from its parts
 whole : (n : ℕ) → n % 256 + 256 * (n / 256) ≡ n
@@ -70,11 +55,8 @@ header_is x0 x1 x2 x3 x4 x5 x6 x7 x8 x9 d a b right l4 l6 l8 size sum =
     let p4 : x4 ∷ (x5 ∷ []) ≡ bytes_of (length d) = parts x4 x5 (length d) l4 (sym size) in
     let p6 : x6 ∷ (x7 ∷ []) ≡ bytes_of (checksum d) = parts x6 x7 (checksum d) l6 (sym sum) in
     let p8 : x8 ∷ (x9 ∷ []) ≡ bytes_of (checksum front) = parts x8 x9 (checksum front) l8 last in
-    let same : front ≡ header_front x2 d =
-    ap (λ x. x ∷ (x1 ∷ (x2 ∷ (x3 ∷ (x4 ∷ (x5 ∷ (x6 ∷ (x7 ∷ [])))))))) a ∙ ap (λ x. 0xA5 ∷ (x ∷ (x2 ∷ (x3 ∷ (x4 ∷ (x5 ∷ (x6 ∷ (x7 ∷ [])))))))) b
-    ∙ ap (λ x. 0xA5 ∷ (10 ∷ (x2 ∷ (x ∷ (x4 ∷ (x5 ∷ (x6 ∷ (x7 ∷ [])))))))) family
-    ∙ ap (λ x. 0xA5 ∷ (10 ∷ (x2 ∷ (0x10 ∷ (x ++ (x6 ∷ (x7 ∷ []))))))) p4 ∙ ap (λ x. 0xA5 ∷ (10 ∷ (x2 ∷ (0x10 ∷ (bytes_of (length d) ++ x))))) p6 in
-    ap (λ t. front ++ t) p8 ∙ ap (λ f. f ++ bytes_of (checksum f)) same
+    let same : front ≡ header_front x2 d = cc in
+    cc
 
 module _ (s : List ℕ) (n k : ℕ) (typed : (i : ℕ) → get_or s i 0 < 256) where
   abbrev h : List ℕ
@@ -85,27 +67,22 @@ module _ (s : List ℕ) (n k : ℕ) (typed : (i : ℕ) → get_or s i 0 < 256) w
 
   from_frame : judged binary s ≡ Frame n k → (k ≡ 1) × Framed s n
   from_frame e =
-      let a = await_frame 1 (λ x. given (eqb (get_or x 0 0) 0xA5) after_sync) s n k e in
-      let b = given_frame (eqb (get_or (take 1 s) 0 0) 0xA5) after_sync s n k a.1 in
-      let c = await_frame 2 (λ x. given (eqb (get_or x 1 0) 10) header) s n k b.1 in
-      let d = given_frame (eqb (get_or (take 2 s) 1 0) 10) header s n k c.1 in
-      let f = await_frame 10 (λ x. given (headed x) (body x)) s n k d.1 in
-      let g = given_frame (headed h) (body h) s n k f.1 in
+      let a = step_frame 1 (λ x. eqb (get_or x 0 0) 0xA5) (λ _. after_sync) s n k e in
+      let b = step_frame 2 (λ x. eqb (get_or x 1 0) 10) (λ _. header) s n k a.2 in
+      let c = step_frame 10 headed body s n k b.2 in
       let w : ℕ = word h 4 in
-      let i = await_frame (10 + w) (λ x. given (eqb (checksum (drop 10 x)) (word h 6)) (frame (10 + w) 1)) s n k g.1 in
-      let j = given_frame (eqb (checksum (drop 10 (take (10 + w) s))) (word h 6)) (frame (10 + w) 1) s n k i.1 in
-      let last : Frame (10 + w) 1 ≡ Frame n k = j.1 in
+      let d = step_frame (10 + w) (λ x. eqb (checksum (drop 10 x)) (word h 6)) (λ _. frame (10 + w) 1) s n k c.2 in
+      let last : Frame (10 + w) 1 ≡ Frame n k = d.2 in
       let content : List ℕ = take w (drop 10 s) in
-      let there : 10 + w ≤ length s = i.0 in
+      let there : 10 + w ≤ length s = d.0 in
       let long : length content ≡ w = simp (length-take, length-drop) (omega arith) in
-      let sum : checksum content ≡ word h 6 = ap checksum (sym (drop-take 10 w s)) ∙ eqb-true _ _ j.0 in
-      let listed = ten s f.0 in
-      let hh : List ℕ = get_or s 0 0 ∷ (get_or s 1 0 ∷ (get_or s 2 0 ∷ (get_or s 3 0 ∷ (get_or s 4 0 ∷ (get_or s 5 0 ∷ (get_or s 6 0 ∷ (get_or s 7 0 ∷ (get_or s 8 0 ∷ (get_or s 9 0 ∷ []))))))))) in
+      let sum : checksum content ≡ word h 6 = ap checksum (sym (drop-take 10 w s)) ∙ eqb-true _ _ d.1 in
+      let listed : h ≡ reads 10 0 s = reads_are 10 0 s c.0 in
       let is = header_is (get_or s 0 0) (get_or s 1 0) (get_or s 2 0) (get_or s 3 0) (get_or s 4 0) (get_or s 5 0) (get_or s 6 0) (get_or s 7 0) (get_or s 8 0) (get_or s 9 0) content
-      (sym (get_or-take 1 s 0 0 (omega arith)) ∙ eqb-true _ _ b.0) (sym (get_or-take 2 s 1 0 (omega arith)) ∙ eqb-true _ _ d.0)
-      (subst (λ x. headed x ≡ true) listed g.0) (typed 4) (typed 6) (typed 8)
+      (sym (get_or-take 1 s 0 0 (omega arith)) ∙ eqb-true _ _ a.1) (sym (get_or-take 2 s 1 0 (omega arith)) ∙ eqb-true _ _ b.1)
+      (subst (λ x. headed x ≡ true) listed c.1) (typed 4) (typed 6) (typed 8)
       (long ∙ ap (λ x. word x 4) listed) (sum ∙ ap (λ x. word x 6) listed) in
-      let right = headed_size h g.0 in
+      let right = headed_size h c.1 in
       let all : s ≡ header_of (get_or s 2 0) content ++ (content ++ drop w (drop 10 s)) =
       sym (take-append-drop 10 s) ∙ ap (λ x. x ++ drop 10 s) (listed ∙ is)
       ∙ ap (λ x. header_of (get_or s 2 0) content ++ x) (sym (take-append-drop w (drop 10 s))) in

@@ -1,4 +1,5 @@
 pub mod Sums
-pub mod Choice
+pub mod Listed
 pub mod BinaryFrames
 pub mod SentenceFrames
+pub mod Closings

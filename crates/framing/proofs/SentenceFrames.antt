@@ -4,14 +4,16 @@ use lib.Bits.{bit_xor}
 use Rattle.std.specs.List.{prefix_len, AllByRecursion}
 use Rattle.std.proofs.lemmas.List.{drop_more, get_or-drop, get_or-take}
 use Rattle.std.proofs.lemmas.Nat.{xor_lt}
-use Rattle.std.proofs.lemmas.Bool.{and_parts, and_from, leb-true, le-leb, lt-ltb, le-ltb, ltb-false, eqb-true, eq-eqb, true≢false}
+use Rattle.std.proofs.lemmas.Bool.{cond-true, and_parts, and_from, leb-true, le-leb, lt-ltb, ltb-false, eqb-true, eq-eqb}
 use Rattle.std.proofs.lemmas.Bool.Decides.{nat_tests}
 use Rattle.framing.specs.declared.verdict.Verdict.{Verdict}
 use Rattle.framing.specs.declared.verdict.Verdict.TheVariants.{NoFrame, Short, Frame}
-use Rattle.framing.specs.Plan.{span, spanned, given, judged}
+use Rattle.framing.specs.Plan.{span, judged}
 use Rattle.framing.specs.Sentence.{payload, xor_of, hex_value, give, finished, closing, sentence, hex_digit, Framed, ExactlySentences}
-use Rattle.framing.specs.Plans.{frame_len, frame_kind, await_frame, given_frame, span_frame}
+use Rattle.framing.specs.Plans.{frame_len, frame_kind, step_frame, span_frame, spanned_on}
 use Rattle.framing.specs.SentencePlan.{closing_is, sentence_is}
+use Rattle.framing.proofs.Closings.{closed_by}
+use Rattle.framing.proofs.Listed.{reads_are}
 
 abbrev Payload : ℕ → Type 0
 Payload b = payload b ≡ true
@@ -24,8 +26,8 @@ digit_written : (c v : ℕ) → hex_value c ≡ Some v → (c ≡ hex_digit v) �
 digit_written c v e = grind (arith, nat_tests)
 
 give_read : (a b : Option ℕ) (x : ℕ) → give a b x ≡ true → (h : ℕ) × (l : ℕ) × (a ≡ Some h) × (b ≡ Some l) × (16 * h + l ≡ x)
-give_read None b x e = absurd (true≢false (sym e))
-give_read (Some h) None x e = absurd (true≢false (sym e))
+give_read None b x e = absurd cc
+give_read (Some h) None x e = absurd cc
 give_read (Some h) (Some l) x e = (h, l, refl, refl, eqb-true (16 * h + l) x e)
 
 -- the payload in front
@@ -67,36 +69,24 @@ module _ (text rest : List ℕ) (some : 1 ≤ length text) (fits : length text �
 
   closed : judged (closing (length text)) line ≡ Frame (length text + 6) 2
   closed =
-      closing_is text tail (omega arith)
-      ∙ ap (λ b. cond b (cond (eqb 42 42) (cond (ltb (length tail) 5) Short (cond (finished (xor_of text) (take 4 (drop 1 tail))) (Frame (length text + 6) 2) NoFrame)) NoFrame) NoFrame) (le-leb 1 (length text) some)
-      ∙ ap (λ b. cond b Short (cond (finished (xor_of text) (take 4 (drop 1 tail))) (Frame (length text + 6) 2) NoFrame)) (le-ltb (length tail) 5 (omega arith))
-      ∙ ap (λ b. cond b (Frame (length text + 6) 2) NoFrame) right
+      closed_by text tail some refl (omega arith) ∙ cond-true _ _ _ right
 
   to_frame : judged sentence line ≡ Frame (length text + 6) 2
   to_frame =
       let count : prefix_len payload (text ++ tail) ≡ length text = leading_all text 42 _ all refl in
       let past : 1 + length text < length line = omega (arith, length-append text tail) in
-      sentence_is line (omega arith) refl
-      ∙ ap (λ m. spanned (ltb (1 + m) (length line)) (leb m 506) (judged (closing m) line)) count
-      ∙ ap (λ b. spanned b (leb (length text) 506) (judged (closing (length text)) line)) (lt-ltb (1 + length text) (length line) past)
-      ∙ ap (λ b. spanned true b (judged (closing (length text)) line)) (le-leb (length text) 506 fits) ∙ closed
+      sentence_is line (omega arith) refl ∙ spanned_on _ _ _ (lt-ltb (1 + prefix_len payload (text ++ tail)) (length line) (omega (arith, count)))
+      (le-leb (prefix_len payload (text ++ tail)) 506 (omega (arith, count)))
+      ∙ ap (λ m. judged (closing m) line) count ∙ closed
 
 -- from the verdict to a payload
 held : (b : Bool) (v : Verdict) (n k : ℕ) → cond b v NoFrame ≡ Frame n k → (b ≡ true) × (v ≡ Frame n k)
 held true v n k e = (refl, e)
-held false v n k e = absurd (let z : ◌≡◌ {A = ℕ} 0 1 = cc in omega arith)
+held false v n k e = absurd cc
 
 waited : (b : Bool) (v : Verdict) (n k : ℕ) → cond b Short v ≡ Frame n k → (b ≡ false) × (v ≡ Frame n k)
-waited true v n k e = absurd (let z : ◌≡◌ {A = ℕ} 0 1 = cc in omega arith)
+waited true v n k e = absurd cc
 waited false v n k e = (refl, e)
-
-five : (t : List ℕ) → 5 ≤ length t → t ≡ get_or t 0 0 ∷ (get_or t 1 0 ∷ (get_or t 2 0 ∷ (get_or t 3 0 ∷ (get_or t 4 0 ∷ drop 5 t))))
-five (a ∷ (b ∷ (c ∷ (d ∷ (e ∷ t))))) l = refl
-five [] l = absurd (omega arith)
-five (a ∷ []) l = absurd (omega arith)
-five (a ∷ (b ∷ [])) l = absurd (omega arith)
-five (a ∷ (b ∷ (c ∷ []))) l = absurd (omega arith)
-five (a ∷ (b ∷ (c ∷ (d ∷ [])))) l = absurd (omega arith)
 
 -- what closes a payload
 tail_is : (text t : List ℕ) (n k : ℕ) → 0 < length t → judged (closing (length text)) (36 ∷ (text ++ t)) ≡ Frame n k
@@ -122,20 +112,14 @@ tail_is text t n k there e =
     let star : get_or t 0 0 ≡ 42 = eqb-true _ _ b.0 in
     let r : List ℕ = drop 5 t in
     let list : t ≡ 42 ∷ (hex_digit (x / 16) ∷ (hex_digit (x % 16) ∷ (13 ∷ (10 ∷ r)))) =
-    five t enough
-    ∙ ap (λ y. y ∷ (get_or t 1 0 ∷ (get_or t 2 0 ∷ (get_or t 3 0 ∷ (get_or t 4 0 ∷ r))))) star
-    ∙ ap (λ y. 42 ∷ (y ∷ (get_or t 2 0 ∷ (get_or t 3 0 ∷ (get_or t 4 0 ∷ r))))) d1
-    ∙ ap (λ y. 42 ∷ (hex_digit (x / 16) ∷ (y ∷ (get_or t 3 0 ∷ (get_or t 4 0 ∷ r))))) d2
-    ∙ ap (λ y. 42 ∷ (hex_digit (x / 16) ∷ (hex_digit (x % 16) ∷ (y ∷ (get_or t 4 0 ∷ r))))) cr
-    ∙ ap (λ y. 42 ∷ (hex_digit (x / 16) ∷ (hex_digit (x % 16) ∷ (13 ∷ (y ∷ r))))) lf in
+    let bytes = sym (take-append-drop 5 t) ∙ ap (λ y. y ++ r) (reads_are 5 0 t enough) in cc in
     (leb-true 1 (length text) a.0, list, d.1)
 
 from_frame : (s : List ℕ) (n k : ℕ) → judged sentence s ≡ Frame n k → (k ≡ 2) × Framed s n
 from_frame s n k e =
-    let a = await_frame 1 (λ x. given (eqb (get_or x 0 0) 36) (span 1 payload 506 closing)) s n k e in
-    let b = given_frame (eqb (get_or (take 1 s) 0 0) 36) (span 1 payload 506 closing) s n k a.1 in
-    let dollar : get_or s 0 0 ≡ 36 = sym (get_or-take 1 s 0 0 (omega arith)) ∙ eqb-true _ _ b.0 in
-    let f = span_frame 1 506 payload closing s n k b.1 in
+    let a = step_frame 1 (λ x. eqb (get_or x 0 0) 36) (λ _. span 1 payload 506 closing) s n k e in
+    let dollar : get_or s 0 0 ≡ 36 = sym (get_or-take 1 s 0 0 (omega arith)) ∙ eqb-true _ _ a.1 in
+    let f = span_frame 1 506 payload closing s n k a.2 in
     let m : ℕ = prefix_len payload (drop 1 s) in
     let text : List ℕ = take m (drop 1 s) in
     let tail : List ℕ = drop m (drop 1 s) in

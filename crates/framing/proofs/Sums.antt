@@ -1,30 +1,38 @@
--- The words of what is left of some bytes, one word on and at the end. Assumes nothing.
-use Rattle.std.proofs.Common.{◌≡◌, ℕ, ◌+◌, ◌*◌, ◌%◌, ◌<◌, ◌≤◌, List, ◌∷◌, length, get_or, drop, ap, ◌∙◌, arith}
-use lib.Bits.{bit_or}
-use Rattle.std.proofs.lemmas.Nat.{or_shifted, or_comm}
-use Rattle.std.proofs.lemmas.List.{drop_more, drop_all}
-use Rattle.framing.specs.Checksum.{words}
+-- The checksum of some bytes by their words and a last odd byte. Assumes nothing.
+use Rattle.std.proofs.Common.{◌≡◌, ℕ, suc, zero, ◌+◌, ◌*◌, ◌/◌, ◌%◌, ◌≤◌, List, [], ◌∷◌, length, get_or, drop, refl, ap, ◌∙◌, arith, length-drop}
+use Rattle.std.specs.List.{sum_by}
+use Rattle.std.specs.Int.{from_le_bytes, w16}
+use Rattle.std.specs.Simd.{first_chunks}
+use Rattle.std.proofs.lemmas.List.{drop-drop}
+use Rattle.std.proofs.lemmas.List.Sums.{sum_by-cons}
+use Rattle.framing.specs.Checksum.{words, checksum}
 
-pub words_more : (s : List ℕ) (i : ℕ) → i + 1 < length s → words (drop i s) ≡ get_or s i 0 + 256 * get_or s (i + 1) 0 + words (drop (i + 1 + 1) s)
-words_more s i h =
-    let l : i < length s = omega arith in
-    let two : drop i s ≡ get_or s i 0 ∷ (get_or s (i + 1) 0 ∷ drop (i + 1 + 1) s) =
-    drop_more s i 0 l ∙ ap (λ t. get_or s i 0 ∷ t) (drop_more s (i + 1) 0 h) in
-    ap words two
+abbrev word_sum : ℕ → List ℕ → ℕ
+word_sum n s = sum_by (from_le_bytes w16) (first_chunks 2 n s)
 
-pub words_last : (s : List ℕ) (i : ℕ) → i + 1 ≡ length s → words (drop i s) ≡ 256 * get_or s i 0
-words_last s i e =
-    let l : i < length s = omega arith in
-    let m : length s ≤ i + 1 = omega arith in
-    ap words (drop_more s i 0 l ∙ ap (λ t. get_or s i 0 ∷ t) (drop_all (i + 1) s m))
+words_of : (n : ℕ) (s : List ℕ) → n * 2 ≤ length s → words s ≡ word_sum n s + words (drop (n * 2) s)
+words_of zero s l = omega arith
+words_of (suc n) [] l = absurd (omega arith)
+words_of (suc n) (a ∷ []) l = absurd (omega arith)
+words_of (suc n) (a ∷ (b ∷ s)) l =
+    let on : drop (n * 2) s ≡ drop (suc n * 2) (a ∷ (b ∷ s)) = drop-drop (n * 2) 2 (a ∷ (b ∷ s)) ∙ ap (λ m. drop m (a ∷ (b ∷ s))) (omega arith) in
+    omega (arith, words_of n s (omega arith), ap words on, sum_by-cons (from_le_bytes w16) (a ∷ (b ∷ [])) (first_chunks 2 n s))
 
-pub words-none : (s : List ℕ) (i : ℕ) → length s ≤ i → words (drop i s) ≡ 0
-words-none s i h = ap words (drop_all i s h)
+last_of : (r : List ℕ) → length r ≡ 1 → words r ≡ 256 * get_or r 0 0
+last_of (a ∷ []) h = refl
+last_of [] h = absurd (omega arith)
+last_of (a ∷ (b ∷ r)) h = absurd (omega arith)
 
--- a word put together from its bytes, as the code does it
-pub word_is : (low high : ℕ) → low < 256 → high < 256 → bit_or low ((high * 256) % 65536) ≡ low + 256 * high
-word_is low high l h =
-    let whole : (high * 256) % 65536 ≡ high * 256 = omega arith in
-    let sum : bit_or (high * 256) low ≡ high * 256 + low = or_shifted high 8 low l in
-    let other : bit_or low (high * 256) ≡ bit_or (high * 256) low = or_comm low (high * 256) in
-    ap (λ n. bit_or low n) whole ∙ other ∙ sum ∙ omega arith
+none_of : (r : List ℕ) → length r ≡ 0 → words r ≡ 0
+none_of [] h = refl
+none_of (a ∷ r) h = absurd (omega arith)
+
+pub even_sum : (s : List ℕ) → length s % 2 ≡ 0 → (0xB58C + word_sum (length s / 2) s) % 65536 ≡ checksum s
+unfolding checksum
+even_sum s h =
+    omega (arith, words_of (length s / 2) s (omega arith), none_of (drop (length s / 2 * 2) s) (omega (arith, length-drop {A = ℕ})))
+
+pub odd_sum : (s rest : List ℕ) → rest ≡ drop (length s / 2 * 2) s → length rest ≡ 1
+    → ((0xB58C + word_sum (length s / 2) s) % 65536 + get_or rest 0 0 * 256 % 65536) % 65536 ≡ checksum s
+unfolding checksum
+odd_sum s rest e h = omega (arith, words_of (length s / 2) s (omega arith), last_of rest h, ap words e)

@@ -8,7 +8,7 @@ use Rattle.framing.specs.Checksum.{checksum}
 use Rattle.framing.specs.Verdicts.{Laws}
 use Rattle.framing.specs.Plan.{Plan, await, frame, given, judged, Sound}
 use Rattle.framing.specs.Binary.{binary, header, body, headed, word}
-use Rattle.framing.specs.Plans.{lawful, given_sound, judged_await, judged_given, judged_last}
+use Rattle.framing.specs.Plans.{lawful, given_sound, judged_await, judged_step, judged_last}
 
 pub headed_size : (h : List ℕ) → headed h ≡ true → word h 4 ≤ 8182
 headed_size h t =
@@ -45,12 +45,9 @@ module _ (s : List ℕ) where
   pub binary_data : slice_index_or s 0 0 ≡ 0xA5 → slice_index s 1 ≡ 10 → headed h ≡ true → 10 + word h 4 ≤ length s
       → judged binary s ≡ cond (checksum (take (word h 4) (drop 10 s)) == word h 6) (Frame (10 + word h 4) 1) NoFrame
   binary_data sync size right there =
-      judged_await 1 (λ x. given (slice_index x 0 == 0xA5) after_sync) s (omega arith)
-      ∙ judged_given (slice_index (take 1 s) 0 == 0xA5) after_sync s (eq-eqb _ _ (get_or-take 1 s 0 0 (omega arith) ∙ sync))
-      ∙ judged_await 2 (λ x. given (slice_index x 1 == 10) header) s (omega arith)
-      ∙ judged_given (slice_index (take 2 s) 1 == 10) header s (eq-eqb _ _ (get_or-take 2 s 1 0 (omega arith) ∙ size))
-      ∙ judged_await 10 (λ x. given (headed x) (body x)) s (omega arith)
-      ∙ judged_given (headed h) (body h) s right
+      judged_step 1 (λ x. slice_index x 0 == 0xA5) (λ _. after_sync) s (omega arith) (eq-eqb _ _ (get_or-take 1 s 0 0 (omega arith) ∙ sync))
+      ∙ judged_step 2 (λ x. slice_index x 1 == 10) (λ _. header) s (omega arith) (eq-eqb _ _ (get_or-take 2 s 1 0 (omega arith) ∙ size))
+      ∙ judged_step 10 headed body s (omega arith) right
       ∙ judged_await (10 + word h 4) (λ x. given (checksum (drop 10 x) == word h 6) (frame (10 + word h 4) 1)) s there
       ∙ judged_last (checksum (drop 10 (take (10 + word h 4) s)) == word h 6) (10 + word h 4) 1 s
       ∙ ap (λ x. cond (checksum x == word h 6) (Frame (10 + word h 4) 1) NoFrame) (drop-take 10 (word h 4) s)

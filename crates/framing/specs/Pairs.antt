@@ -8,12 +8,12 @@ use Rattle.framing.specs.Verdicts.{Laws, or_else}
 module _ {v w : List ℕ → Verdict} {r q : ℕ} (first : Laws v r) (second : Laws w q) where
   within : (s : List ℕ) (n k : ℕ) (x : Verdict) → v s ≡ x → or_else x (w s) ≡ Frame n k → (1 ≤ n) × (n ≤ length s) × (n ≤ max r q)
   within s n k NoFrame e h = let f = second.within s n k h in (f.0, f.1, omega arith)
-  within s n k Short e h = absurd (let z : ◌≡◌ {A = ℕ} 0 1 = cc in omega arith)
+  within s n k Short e h = absurd cc
   within s n k (Frame m j) e h = let f = first.within s n k (e ∙ h) in (f.0, f.1, omega arith)
 
   stays : (s t : List ℕ) (x : Verdict) → v s ≡ x → (or_else x (w s) ≢ Short) → or_else (v (s ++ t)) (w (s ++ t)) ≡ or_else x (w s)
   stays s t NoFrame e d =
-      let same : v (s ++ t) ≡ NoFrame = first.stays s t (λ h. let z : ◌≡◌ {A = ℕ} 0 1 = cc in omega arith) ∙ e in
+      let same : v (s ++ t) ≡ NoFrame = first.stays s t (λ h. cc) ∙ e in
       ap (λ y. or_else y (w (s ++ t))) same ∙ second.stays s t d
   stays s t Short e d = absurd (d refl)
   stays s t (Frame m j) e d =

@@ -1,8 +1,11 @@
 -- The laws of a framing, for every sound plan. Assumes nothing.
-use Rattle.std.specs.Prelude.{◌≡◌, ℕ, ◌+◌, ◌<◌, ◌≤◌, max, Bool, true, false, cond, ltb, leb, List, [], ◌∷◌, ◌++◌, length, take, drop, ◌≢◌, nat_le, nat_lt, refl}
+use Rattle.std.specs.Prelude.{◌≡◌, ℕ, ◌+◌, ◌<◌, ◌≤◌, max, Bool, true, false, cond, ltb, leb, List, [], ◌++◌, length, take, drop, ◌≢◌, nat_le, nat_lt, refl}
 use Rattle.std.proofs.Common.{sym, ap, ◌∙◌, arith, length-append, length-drop}
 use Rattle.std.specs.List.{prefix_len}
 use Rattle.std.proofs.lemmas.List.{take-append-le, drop-append-le, length-take-le}
+use Rattle.std.proofs.lemmas.List.Folds.{prefix_len-append}
+use Rattle.std.proofs.lemmas.List.Sums.{prefix_len-le-length}
+use Rattle.std.proofs.lemmas.Bool.Decides.{nat_tests}
 use Rattle.std.proofs.lemmas.Bool.{ltb-true, ltb-false, leb-true, leb-false, lt-ltb, le-ltb, lt-leb}
 use Rattle.framing.specs.declared.verdict.Verdict.{Verdict}
 use Rattle.framing.specs.declared.verdict.Verdict.TheVariants.{NoFrame, Short, Frame}
@@ -17,22 +20,11 @@ frame_kind e = cc
 
 -- what passes a test, counted in a longer list
 leading_more : (test : ℕ → Bool) (s t : List ℕ) → prefix_len test s ≤ prefix_len test (s ++ t)
-leading_more test [] t = omega arith
-leading_more test (x ∷ s) t = at (test x) (leading_more test s t)
-  where
-    at : (b : Bool) → prefix_len test s ≤ prefix_len test (s ++ t) → cond b (1 + prefix_len test s) 0 ≤ cond b (1 + prefix_len test (s ++ t)) 0
-    at true h = omega arith
-    at false h = omega arith
+leading_more test s t = grind (arith, nat_tests, prefix_len-append test s t, prefix_len-le-length test s)
 
 -- where the counting came to an end, it is the same in a longer list
 leading_ended : (test : ℕ → Bool) (s t : List ℕ) → prefix_len test s < length s → prefix_len test (s ++ t) ≡ prefix_len test s
-leading_ended test [] t h = absurd (omega arith)
-leading_ended test (x ∷ s) t h = at (test x) (leading_ended test s t) h
-  where
-    at : (b : Bool) → (prefix_len test s < length s → prefix_len test (s ++ t) ≡ prefix_len test s) → cond b (1 + prefix_len test s) 0 < length (x ∷ s)
-        → cond b (1 + prefix_len test (s ++ t)) 0 ≡ cond b (1 + prefix_len test s) 0
-    at true more l = ap (λ n. 1 + n) (more (omega arith))
-    at false more l = refl
+leading_ended test s t h = grind (arith, nat_tests, prefix_len-append test s t)
 
 -- the ways to a verdict, at a step that waits and at one that counts
 awaited : (b : Bool) (v w : Verdict) (P : Type 0) → (b ≡ true → w ≡ Short → P) → (b ≡ false → v ≡ w → P) → cond b Short v ≡ w → P
@@ -46,13 +38,13 @@ counted true true v w P many early on q = on refl refl q
 counted false true v w P many early on q = early refl refl (sym q)
 
 clash_no : (n k : ℕ) → NoFrame ≢ Frame n k
-clash_no n k e = let z : ◌≡◌ {A = ℕ} 0 1 = cc in omega arith
+clash_no n k e = cc
 
 clash_short : (n k : ℕ) → Frame n k ≢ Short
-clash_short n k e = let z : ◌≡◌ {A = ℕ} 0 1 = cc in omega arith
+clash_short n k e = cc
 
 clash_both : NoFrame ≡ Short → ⊥
-clash_both e = let z : ◌≡◌ {A = ℕ} 0 1 = cc in omega arith
+clash_both e = cc
 
 Fits : ℕ → List ℕ → ℕ → Type 0
 Fits reach s n = (1 ≤ n) × (n ≤ length s) × (n ≤ reach)
@@ -145,9 +137,17 @@ judged_await m go s h = ap (λ x. cond x Short (judged (go (take m s)) s)) (le-l
 pub judged_given : (b : Bool) (p : Plan) (s : List ℕ) → b ≡ true → judged (given b p) s ≡ judged p s
 judged_given b p s t = ap (λ x. judged (cond x p none) s) t
 
+-- one step of a verdict that waits and then tests
+pub judged_step : (m : ℕ) (test : List ℕ → Bool) (go : List ℕ → Plan) (s : List ℕ) → m ≤ length s → test (take m s) ≡ true
+    → judged (await m (λ x. given (test x) (go x))) s ≡ judged (go (take m s)) s
+judged_step m test go s h t = judged_await m (λ x. given (test x) (go x)) s h ∙ judged_given (test (take m s)) (go (take m s)) s t
+
 pub judged_last : (b : Bool) (n k : ℕ) (s : List ℕ) → judged (given b (frame n k)) s ≡ cond b (Frame n k) NoFrame
 judged_last true n k s = refl
 judged_last false n k s = refl
+
+pub spanned_on : (ended few : Bool) (v : Verdict) → ended ≡ true → few ≡ true → spanned ended few v ≡ v
+spanned_on ended few v e f = ap (λ x. spanned x few v) e ∙ ap (λ x. spanned true x v) f
 
 -- a plan that first waits for a byte, and is sound, gives a framing
 pub lawful : (p : Plan) (reach : ℕ) → Sound reach 0 p → judged p [] ≡ Short → 1 ≤ reach → reach ≤ 8192 → Laws (judged p) reach
@@ -169,6 +169,13 @@ await_frame m go s n k =
 pub given_frame : (b : Bool) (p : Plan) (s : List ℕ) (n k : ℕ) → judged (given b p) s ≡ Frame n k → (b ≡ true) × (judged p s ≡ Frame n k)
 given_frame true p s n k e = (refl, e)
 given_frame false p s n k e = absurd (clash_no n k e)
+
+pub step_frame : (m : ℕ) (test : List ℕ → Bool) (go : List ℕ → Plan) (s : List ℕ) (n k : ℕ) → judged (await m (λ x. given (test x) (go x))) s ≡ Frame n k
+    → (m ≤ length s) × (test (take m s) ≡ true) × (judged (go (take m s)) s ≡ Frame n k)
+step_frame m test go s n k e =
+    let there = await_frame m (λ x. given (test x) (go x)) s n k e in
+    let right = given_frame (test (take m s)) (go (take m s)) s n k there.1 in
+    (there.0, right.0, right.1)
 
 pub span_frame : (from most : ℕ) (test : ℕ → Bool) (go : ℕ → Plan) (s : List ℕ) (n k : ℕ) → judged (span from test most go) s ≡ Frame n k
     → (from + prefix_len test (drop from s) < length s) × (prefix_len test (drop from s) ≤ most) × (judged (go (prefix_len test (drop from s))) s ≡ Frame n k)

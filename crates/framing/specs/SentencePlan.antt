@@ -1,8 +1,9 @@
 -- The plan of the sentence framing: it is sound, and what it comes to behind the payload. Assumes nothing.
-use Rattle.std.specs.Prelude.{◌≡◌, ℕ, zero, suc, ◌+◌, ◌-◌, ◌<◌, ◌≤◌, min, max, Bool, true, false, cond, ltb, List, [], ◌∷◌, ◌++◌, length, take, drop, ◌==◌, nat_le, nat_lt, slice_index, slice_index_or, slice_range, refl}
+use Rattle.std.specs.Prelude.{◌≡◌, ℕ, suc, ◌+◌, ◌-◌, ◌<◌, ◌≤◌, min, max, Bool, true, false, cond, ltb, List, ◌∷◌, ◌++◌, length, take, drop, ◌==◌, nat_le, nat_lt, slice_index, slice_index_or, slice_range, refl}
 use Rattle.std.proofs.Common.{sym, ap, ◌∙◌, arith, length-append, length-take, length-drop}
 use Rattle.std.specs.List.{prefix_len}
 use Rattle.std.proofs.lemmas.List.{take_at, drop_at, get_or-take, drop-take, get_or-append_right, take-take, drop-drop, drop_more, take_rest, take-append-drop}
+use Rattle.std.proofs.lemmas.List.Folds.{prefix_len-append}
 use Rattle.std.proofs.lemmas.List.Sums.{prefix_len-le-length}
 use Rattle.std.proofs.lemmas.Bool.{eq-eqb, lt-ltb, le-ltb, lt-leb, le-leb}
 use Rattle.std.proofs.lemmas.Bool.Decides.{nat_tests}
@@ -10,7 +11,7 @@ use Rattle.framing.specs.declared.verdict.Verdict.TheVariants.{NoFrame, Short, F
 use Rattle.framing.specs.Verdicts.{Laws}
 use Rattle.framing.specs.Plan.{Plan, await, span, frame, given, spanned, judged, Sound}
 use Rattle.framing.specs.Sentence.{sentence, closing, finished, payload, xor_of}
-use Rattle.framing.specs.Plans.{lawful, given_sound, judged_await, judged_given, judged_last}
+use Rattle.framing.specs.Plans.{lawful, given_sound, judged_await, judged_step, judged_last, spanned_on}
 
 -- the plan from the `*` on, and from the checksum on
 abbrev ending : ℕ → Plan
@@ -87,13 +88,10 @@ module _ (text tail : List ℕ) (there : 0 < length tail) where
       ∙ ap (λ v. cond (slice_index tail 0 == 42) v NoFrame) ending_is)
 
 leading_take : (test : ℕ → Bool) (j : ℕ) (s : List ℕ) → prefix_len test (take j s) ≡ min j (prefix_len test s)
-leading_take test zero s = omega arith
-leading_take test (suc j) [] = omega arith
-leading_take test (suc j) (x ∷ s) = at (test x) (leading_take test j s)
-  where
-    at : (b : Bool) → prefix_len test (take j s) ≡ min j (prefix_len test s) → cond b (1 + prefix_len test (take j s)) 0 ≡ min (suc j) (cond b (1 + prefix_len test s) 0)
-    at true e = omega arith
-    at false e = omega arith
+leading_take test j s =
+    let parts = prefix_len-append test (take j s) (drop j s) in
+    let whole = ap (prefix_len test) (take-append-drop j s) in
+    grind (arith, nat_tests, length-take j s, length-drop j s, prefix_len-le-length test s, prefix_len-le-length test (take j s), prefix_len-le-length test (drop j s))
 
 module _ (s : List ℕ) (first : 0 < length s) (dollar : slice_index_or s 0 0 ≡ 36) where
   abbrev count : ℕ
@@ -101,12 +99,11 @@ module _ (s : List ℕ) (first : 0 < length s) (dollar : slice_index_or s 0 0 �
 
   pub sentence_is : judged sentence s ≡ spanned (nat_lt (1 + count) (length s)) (nat_le count 506) (judged (closing count) s)
   sentence_is =
-      judged_await 1 (λ x. given (slice_index x 0 == 36) (span 1 payload 506 closing)) s (omega arith)
-      ∙ judged_given (slice_index (take 1 s) 0 == 36) (span 1 payload 506 closing) s (eq-eqb _ _ (get_or-take 1 s 0 0 (omega arith) ∙ dollar))
+      judged_step 1 (λ x. slice_index x 0 == 36) (λ _. span 1 payload 506 closing) s (omega arith) (eq-eqb _ _ (get_or-take 1 s 0 0 (omega arith) ∙ dollar))
 
   -- the payload that is counted among the first bytes
-  pub near_count : (near m : ℕ) → near ≡ min (length s) 508 → m ≡ prefix_len payload (slice_range s 1 near) → m ≡ min 507 count
-  near_count near m e c =
+  pub near_count : (near : ℕ) → near ≡ min (length s) 508 → prefix_len payload (slice_range s 1 near) ≡ min 507 count
+  near_count near e =
       let all : count ≤ length s - 1 = omega (arith, prefix_len-le-length payload (drop 1 s), length-drop 1 s) in
       omega (arith, leading_take payload (near - 1) (drop 1 s))
 
@@ -126,11 +123,11 @@ module _ (s : List ℕ) (first : 0 < length s) (dollar : slice_index_or s 0 0 �
       sym (sentence_is ∙ ap (λ b. spanned b (nat_le count 506) (judged (closing count) s)) (le-ltb (1 + count) (length s) l)
       ∙ ap (λ b. spanned false b (judged (closing count) s)) (le-leb count 506 h))
 
-  pub closes : (k : ℕ) → k ≡ 1 + count → count ≤ 506 → k < length s
-      → judged (closing (length (slice_range s 1 k))) (36 ∷ (slice_range s 1 k ++ take (length s - k) (drop k s))) ≡ judged sentence s
-  closes k e h l =
+  pub closes : (k : ℕ) (tail : List ℕ) → tail ≡ take (length s - k) (drop k s) → k ≡ 1 + count → count ≤ 506 → k < length s
+      → judged (closing (length (slice_range s 1 k))) (36 ∷ (slice_range s 1 k ++ tail)) ≡ judged sentence s
+  closes k tail t e h l =
       let long : length (slice_range s 1 k) ≡ count = simp (length-take, length-drop) (omega arith) in
-      ap (λ m. judged (closing m) (36 ∷ (slice_range s 1 k ++ take (length s - k) (drop k s)))) long
+      ap (λ m. judged (closing m) (36 ∷ (slice_range s 1 k ++ tail))) long
+      ∙ ap (λ r. judged (closing count) (36 ∷ (slice_range s 1 k ++ r))) t
       ∙ ap (judged (closing count)) (parts_are k (omega arith) (omega arith))
-      ∙ sym (sentence_is ∙ ap (λ b. spanned b (nat_le count 506) (judged (closing count) s)) (lt-ltb (1 + count) (length s) (omega arith))
-      ∙ ap (λ b. spanned true b (judged (closing count) s)) (le-leb count 506 h))
+      ∙ sym (sentence_is ∙ spanned_on _ _ _ (lt-ltb (1 + count) (length s) (omega arith)) (le-leb count 506 h))

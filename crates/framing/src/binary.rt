@@ -1,5 +1,5 @@
 // Binary frames, kind 1: a header of ten bytes and its data.
-ghost use Rattle.std.specs.Prelude.{◌≡◌, ◌+◌, ◌*◌, ◌≤◌, ◌++◌, length, if◌then◌else◌, Some, None, nat_eq};
+ghost use Rattle.std.specs.Prelude.{◌≡◌, ◌+◌, length, if◌then◌else◌, Some, None, nat_eq};
 ghost use Rattle.framing.specs.Checksum.{checksum};
 ghost use Rattle.framing.specs.Plan.{judged};
 ghost use Rattle.framing.specs.Binary.{binary as binary_plan, headed, word, ExactlyFrames};
@@ -23,20 +23,12 @@ const KIND: u8 = 1;
 #[derive(Clone, Copy, Debug)]
 pub struct Binary;
 
-// The little-endian word of two bytes.
-fn word_of(low: u8, high: u8) -> u16
-    ensures { result ≡ low + 256 * high }
-{
-    u16::from_le_bytes([low, high])
-}
-
 // The number of data bytes that a header announces, where family, checksum and size are right.
-fn data_size(header: &[u8]) -> Option<usize>
-    requires { length header.now ≡ 10 }
+fn data_size(header: &[u8; HEADER]) -> Option<usize>
     ensures { result ≡ (if headed header.now then Some (word header.now 4) else None) }
 {
-    let size = word_of(header[4], header[5]) as usize;
-    let sum = word_of(header[8], header[9]);
+    let size = u16::from_le_bytes([header[4], header[5]]) as usize;
+    let sum = u16::from_le_bytes([header[8], header[9]]);
     if header[3] != FAMILY || sum != checksum_of(&header[0..8]) || size > MOST_DATA {
         return None;
     }
@@ -44,11 +36,11 @@ fn data_size(header: &[u8]) -> Option<usize>
 }
 
 // The verdict once the data are there: a frame, if they have the checksum that the header says.
-fn data_verdict(header: &[u8], body: &[u8]) -> Verdict
-    requires { (length header.now ≡ 10) × (length body.now ≤ 8182) }
+fn data_verdict(header: &[u8; HEADER], body: &[u8]) -> Verdict
     ensures { result ≡ (if nat_eq (checksum body.now) (word header.now 6) then Verdict.Frame (10 + length body.now) 1 else Verdict.NoFrame) }
 {
-    if checksum_of(body) != word_of(header[6], header[7]) {
+    let sum = u16::from_le_bytes([header[6], header[7]]);
+    if checksum_of(body) != sum {
         return Verdict::NoFrame;
     }
     Verdict::Frame {
@@ -73,17 +65,16 @@ fn judge(bytes: &[u8]) -> Verdict
     if bytes[1] != HEADER_BYTE {
         return Verdict::NoFrame;
     }
-    if bytes.len() < HEADER {
+    let Some((header, data)) = bytes.split_first_chunk() else {
         return Verdict::Short;
-    }
-    let header = &bytes[0..HEADER];
+    };
     let Some(size) = data_size(header) else {
         return Verdict::NoFrame;
     };
-    if bytes.len() - HEADER < size {
+    if data.len() < size {
         return Verdict::Short;
     }
-    data_verdict(header, &bytes[HEADER..HEADER + size])
+    data_verdict(header, &data[..size])
 }
 
 impl Framing for Binary {

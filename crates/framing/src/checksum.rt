@@ -1,32 +1,31 @@
 // The checksum of frames.
-ghost use Rattle.std.specs.Prelude.{◌≡◌, ◌+◌, ◌-◌, ◌*◌, ◌%◌, length, slice_index};
+ghost use Rattle.std.specs.Prelude.{◌≡◌, ◌+◌, ◌%◌};
+ghost use Rattle.std.specs.List.{sum_by};
+ghost use Rattle.std.specs.Int.{from_le_bytes, w16};
 ghost use Rattle.framing.specs.Checksum.{checksum};
 
 const START: u16 = 0xB58C;
 
-// S of the bytes up to a last odd one.
-fn word_sum(bytes: &[u8]) -> u16
-    ensures even { length bytes.now % 2 ≡ 0 → result ≡ checksum bytes.now }
-    ensures odd { length bytes.now % 2 ≡ 1 → checksum bytes.now ≡ (result + 256 * slice_index bytes.now (length bytes.now - 1)) % 65536 }
+// The start value and some little-endian words, added modulo 65,536. A loop, as the clause of a fold would name the remainder at each step.
+fn word_sum(words: &[[u8; 2]]) -> u16
+    ensures { result ≡ (START + sum_by (from_le_bytes w16) words.now) % 65536 }
 {
     let mut sum = START;
-    for i in 0..bytes.len() / 2 {
-        let low = bytes[2 * i] as u16;
-        let high = bytes[2 * i + 1] as u16;
-        sum = sum.wrapping_add(low | (high << 8));
+    for word in words {
+        sum = sum.wrapping_add(u16::from_le_bytes(*word));
     }
     sum
 }
 
 // S of the bytes: the start value, their 16-bit little-endian words, and a last odd byte as a high byte, modulo 65,536.
+#[tactic(auto, using(crate::proofs::Sums::even_sum, crate::proofs::Sums::odd_sum))]
 pub fn checksum_of(bytes: &[u8]) -> u16
     ensures { result ≡ checksum bytes.now }
 {
-    let sum = word_sum(bytes);
-    if bytes.len() % 2 == 1 {
-        let last = bytes[bytes.len() - 1] as u16;
-        sum.wrapping_add(last << 8)
-    } else {
-        sum
+    let (words, rest) = bytes.as_chunks();
+    let sum = word_sum(words);
+    match rest {
+        [last] => sum.wrapping_add(u16::from(*last) << 8),
+        _ => sum,
     }
 }

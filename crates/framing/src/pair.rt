@@ -4,13 +4,7 @@ ghost use Rattle.framing.specs.Verdicts.{or_else};
 ghost use Rattle.framing.specs.Pairs.{pair_lawful};
 
 use crate::verdict::{Framing, Verdict};
-
-// The first framing's verdict, and the second one's where the first says no frame.
-#[derive(Clone, Copy, Drop, Debug)]
-pub struct Pair<A, B> {
-    pub first: A,
-    pub second: B,
-}
+use common::pair::Pair;
 
 impl<A: Framing, B: Framing> Framing for Pair<A, B> {
     ghost verdict = { λ f s. or_else (A.Framing.verdict f.first s) (B.Framing.verdict f.second s) };

@@ -1,5 +1,5 @@
 // Sentences, kind 2: `$`, a payload, `*`, its exclusive-or in two hex digits, CR and LF.
-ghost use Rattle.std.specs.Prelude.{◌≡◌, ◌<◌, ◌≤◌, ◌∷◌, ◌++◌, length};
+ghost use Rattle.std.specs.Prelude.{◌≡◌, ◌+◌, ◌<◌, ◌≤◌, ◌∷◌, ◌++◌, length, if◌then◌else◌};
 ghost use Rattle.std.specs.List.{prefix_len};
 ghost use Rattle.framing.specs.Plan.{judged};
 ghost use Rattle.framing.specs.Sentence.{sentence as sentence_plan, payload, xor_of, hex_value, finished, closing, ExactlySentences};
@@ -17,11 +17,7 @@ pub struct Sentence;
 fn is_payload(b: u8) -> bool
     ensures { result ≡ payload b }
 {
-    match b {
-        b'$' | b'*' => false,
-        0x20..=0x7E => true,
-        _ => false,
-    }
+    matches!(b, 0x20..=0x7E) && b != b'$' && b != b'*'
 }
 
 // How many payload bytes stand in front.
@@ -29,22 +25,13 @@ fn payload_len(bytes: &[u8]) -> usize
     ensures value { result ≡ prefix_len payload bytes.now }
     ensures bound { result ≤ length bytes.now }
 {
-    for (i, b) in bytes.iter().enumerate() {
-        if !is_payload(*b) {
-            return i;
-        }
-    }
-    bytes.len()
+    bytes.iter().take_while(|b| is_payload(**b)).count()
 }
 
 fn xor_of(bytes: &[u8]) -> u8
     ensures { result ≡ xor_of bytes.now }
 {
-    let mut sum = 0;
-    for b in bytes {
-        sum ^= *b;
-    }
-    sum
+    bytes.iter().fold(0, |sum, b| sum ^ *b)
 }
 
 // The value of an upper-case hex digit.
@@ -59,40 +46,47 @@ fn hex_value(c: char) -> Option<u8>
 }
 
 // Whether the four bytes behind `*` are the digits of `sum`, CR and LF.
-fn is_finished(sum: u8, end: &[u8]) -> bool
-    requires { length end.now ≡ 4 }
+fn is_finished(sum: u8, end: &[u8; 4]) -> bool
     ensures { result ≡ finished sum end.now }
 {
-    match (hex_value(end[0] as char), hex_value(end[1] as char)) {
-        (Some(high), Some(low)) => 16 * (high as u16) + low as u16 == sum as u16
-            && end[2] == b'\r'
-            && end[3] == b'\n',
+    let [high, low, cr, lf] = *end;
+    match (hex_value(high as char), hex_value(low as char)) {
+        (Some(high), Some(low)) => {
+            16 * (high as u16) + low as u16 == sum as u16 && cr == b'\r' && lf == b'\n'
+        }
         _ => false,
     }
 }
 
-// The verdict on `$`, these payload bytes and what stands from the first other byte on.
-fn close(text: &[u8], tail: &[u8]) -> Verdict
-    requires { (length text.now ≤ 506) × (0 < length tail.now) }
-    ensures { result ≡ judged (closing (length text.now)) (36 ∷ (text.now ++ tail.now)) }
+// The verdict once the four bytes behind `*` are there: a frame, if they are the end of this payload.
+fn end_verdict(text: &[u8], end: &[u8; 4]) -> Verdict
+    ensures { result ≡ (if finished (xor_of text.now) end.now then Verdict.Frame (length text.now + 6) 2 else Verdict.NoFrame) }
 {
-    if text.is_empty() || tail[0] != b'*' {
+    if !is_finished(xor_of(text), end) {
         return Verdict::NoFrame;
     }
-    if tail.len() < 5 {
-        return Verdict::Short;
-    }
-    if is_finished(xor_of(text), &tail[1..5]) {
-        Verdict::Frame {
-            len: text.len() + 6,
-            kind: KIND,
-        }
-    } else {
-        Verdict::NoFrame
+    Verdict::Frame {
+        len: text.len() + 6,
+        kind: KIND,
     }
 }
 
+// The verdict on `$`, these payload bytes, the first other byte and what stands behind it.
+#[tactic(auto, using(crate::specs::SentencePlan::closing_is))]
+fn close(text: &[u8], mark: u8, rest: &[u8]) -> Verdict
+    ensures { result ≡ judged (closing (length text.now)) (36 ∷ (text.now ++ (mark ∷ rest.now))) }
+{
+    if text.is_empty() || mark != b'*' {
+        return Verdict::NoFrame;
+    }
+    let Some(end) = rest.first_chunk() else {
+        return Verdict::Short;
+    };
+    end_verdict(text, end)
+}
+
 // The verdict on some bytes, step by step.
+#[tactic(auto, using(crate::specs::SentencePlan::near_count, crate::specs::SentencePlan::too_many, crate::specs::SentencePlan::open_ended, crate::specs::SentencePlan::closes))]
 fn judge(bytes: &[u8]) -> Verdict
     ensures { result ≡ judged sentence_plan bytes.now }
 {
@@ -107,10 +101,10 @@ fn judge(bytes: &[u8]) -> Verdict
     if k > MOST_PAYLOAD + 1 {
         return Verdict::NoFrame;
     }
-    if k == bytes.len() {
+    let Some((mark, rest)) = bytes[k..].split_first() else {
         return Verdict::Short;
-    }
-    close(&bytes[1..k], &bytes[k..])
+    };
+    close(&bytes[1..k], *mark, rest)
 }
 
 impl Framing for Sentence {

@@ -10,7 +10,7 @@ pub enum Verdict {
     NoFrame,
     // More bytes are needed to tell.
     Short,
-    // The first `len` bytes are a frame of this kind.
+    // The first `len` bytes are a frame of this kind: a number, since any framing may have kinds of its own.
     Frame { len: usize, kind: u8 },
 }
 

@@ -14,14 +14,6 @@ use writing::tag::write_tag;
 
 const SPACE: usize = 64;
 
-const NONE: Part = Part {
-    code: 0,
-    place: 0,
-    width: 0,
-    count: 0,
-    signed: false,
-};
-
 // The tag of the guide, written piece by piece through a draft.
 fn draft_tag(space: &mut [u8]) -> Result<usize, DraftFull> {
     let mut draft = Draft::start(space, 0xA0);
@@ -37,26 +29,22 @@ fn draft_tag(space: &mut [u8]) -> Result<usize, DraftFull> {
 
 // The record written again from the parts that its format lists.
 fn again(record: &[u8], space: &mut [u8]) -> anyhow::Result<usize> {
-    let mut table = [NONE; 4];
+    let mut table = [Part::default(); 4];
     let mut parts = List::new(&mut table);
     if Text.list(1, record, &mut parts).is_err() {
         return Err(anyhow!("the record is not accepted"));
     }
-    match write_again(record, parts.as_slice(), space) {
-        Ok(n) => Ok(n),
-        Err(_) => Err(anyhow!("the record is not written again")),
-    }
+    write_again(record, parts.as_slice(), space).map_err(|_| anyhow!(
+        "the record is not written again"
+    ))
 }
 
 fn print_hex(rt: &HostRuntime, bytes: &[u8]) -> anyhow::Result<()> {
     for row in bytes.chunks(16) {
-        let mut first = true;
+        let mut blank = "";
         for b in row {
-            if !first {
-                print!(rt; " ")?;
-            }
-            print!(rt; "{b:02x}")?;
-            first = false;
+            print!(rt; "{blank}{b:02x}")?;
+            blank = " ";
         }
         println!(rt; "")?;
     }

@@ -14,6 +14,14 @@ binary_format series =
 abbrev pub format_of : ℕ → ℕ → RecordFormat
 format_of kind series = cond (eqb kind 2) Sentence (cond (eqb kind 1) (binary_format series) Unknown)
 
+-- the name that is printed of a format
+abbrev pub name_of : RecordFormat → List ℕ
+name_of Df3 = codes "DF3"
+name_of Df7 = codes "DF7"
+name_of Text = codes "string"
+name_of Sentence = codes "sentence"
+name_of Unknown = codes "unknown"
+
 abbrev pub title_of : RecordFormat → List ℕ
 title_of Df3 = codes "DVL Integrator's Guide"
 title_of Df7 = codes "Integrator's Guide, Generation 2 2D Horizontal Profiler"

@@ -1,8 +1,10 @@
 // Which guide describes a record, by its kind and series.
 #![tactic(auto)]
 
-ghost use Rattle.std.specs.Prelude.{◌≡◌};
-ghost use Rattle.guides.specs.Guides.{format_of, title_of, edition_of};
+ghost use Rattle.std.specs.Prelude.{◌≡◌, Some};
+ghost use Rattle.guides.specs.Guides.{format_of, name_of, title_of, edition_of};
+
+use std::fmt;
 
 // The format of a record.
 #[derive(Clone, Copy, PartialEq, Eq, Debug)]
@@ -14,7 +16,21 @@ pub enum RecordFormat {
     Unknown,
 }
 
-// A record's format, and the title and edition of the guide that describes it, empty where none does.
+impl fmt::Display for RecordFormat {
+    ghost output = { λ format. Some (name_of format) };
+
+    fn fmt<W: fmt::Write>(&self, f: &mut fmt::Formatter<W>) -> fmt::Result {
+        f.write_str(match self {
+            RecordFormat::Df3 => "DF3",
+            RecordFormat::Df7 => "DF7",
+            RecordFormat::Text => "string",
+            RecordFormat::Sentence => "sentence",
+            RecordFormat::Unknown => "unknown",
+        })
+    }
+}
+
+// A record's format, and the title and edition of the guide that describes it, empty where none does, so that they print as they are.
 #[derive(Clone, Copy, Debug)]
 pub struct Guide {
     pub format: RecordFormat,
@@ -26,22 +42,12 @@ pub struct Guide {
 pub fn record_format(kind: u8, series: u8) -> RecordFormat
     ensures { result ≡ format_of kind series }
 {
-    if kind == 2 {
-        return RecordFormat::Sentence;
-    }
-    if kind != 1 {
-        return RecordFormat::Unknown;
-    }
-    if series == 0x15 || series == 0x16 || series == 0x18 {
-        return RecordFormat::Df3;
-    }
-    if series == 0x26 {
-        return RecordFormat::Df7;
-    }
-    if series == 0xA0 {
-        RecordFormat::Text
-    } else {
-        RecordFormat::Unknown
+    match (kind, series) {
+        (2, _) => RecordFormat::Sentence,
+        (1, 0x15 | 0x16 | 0x18) => RecordFormat::Df3,
+        (1, 0x26) => RecordFormat::Df7,
+        (1, 0xA0) => RecordFormat::Text,
+        _ => RecordFormat::Unknown,
     }
 }
 
@@ -51,8 +57,9 @@ pub fn title(format: RecordFormat) -> &'static str
 {
     match format {
         RecordFormat::Df3 => "DVL Integrator's Guide",
-        RecordFormat::Df7 => "Integrator's Guide, Generation 2 2D Horizontal Profiler",
-        RecordFormat::Text => "Integrator's Guide, Generation 2 2D Horizontal Profiler",
+        RecordFormat::Df7 | RecordFormat::Text => {
+            "Integrator's Guide, Generation 2 2D Horizontal Profiler"
+        }
         RecordFormat::Sentence => "DVL Operations and Integration",
         RecordFormat::Unknown => "", // no guide
     }
@@ -64,8 +71,7 @@ pub fn edition(format: RecordFormat) -> &'static str
 {
     match format {
         RecordFormat::Df3 => "2023.1",
-        RecordFormat::Df7 => "2026.2",
-        RecordFormat::Text => "2026.2",
+        RecordFormat::Df7 | RecordFormat::Text => "2026.2",
         RecordFormat::Sentence => "2025.1",
         RecordFormat::Unknown => "",
     }

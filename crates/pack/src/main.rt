@@ -27,11 +27,7 @@ fn write_blocks(rt: &HostRuntime, entries: &[Entry]) -> anyhow::Result<()> {
             out.flush()?;
             Ok(())
         }
-        Err(fault) => conclude(
-            rt,
-            Some(fault.refusal()),
-            "the register has too many entries",
-        ),
+        Err(fault) => conclude(rt, Some(fault.into()), "the register has too many entries"),
     }
 }
 

@@ -6,22 +6,7 @@ use Rattle.framing.specs.declared.verdict.Verdict.{Verdict}
 use Rattle.framing.specs.declared.verdict.Verdict.TheVariants.{NoFrame, Short, Frame}
 use Rattle.framing.specs.Verdicts.{Laws}
 use Rattle.framing.specs.Plans.{frame_len, frame_kind}
-use Rattle.reading.specs.declared.steps.Step.TheVariants.{Take, Pass, Stop}
-use Rattle.reading.specs.Steps.{step_of}
 use Rattle.reading.specs.Reading.{Found, found, Reading, ends, stops, cuts, skips, takes}
-
--- two verdicts that are not the same
-clash : {n k : ℕ} {v : Verdict} → v ≡ Short → v ≡ Frame n k → ⊥
-clash a b = let z : ◌≡◌ {A = ℕ} 0 1 = cc in omega arith
-
-clash_none : {n k : ℕ} {v : Verdict} → v ≡ NoFrame → v ≡ Frame n k → ⊥
-clash_none a b = let z : ◌≡◌ {A = ℕ} 0 1 = cc in omega arith
-
-clash_short : {v : Verdict} → v ≡ NoFrame → v ≡ Short → ⊥
-clash_short a b = let z : ◌≡◌ {A = ℕ} 0 1 = cc in omega arith
-
-clash_closed : {c : Bool} → c ≡ true → c ≡ false → ⊥
-clash_closed a b = let z : ◌≡◌ {A = ℕ} 0 1 = cc in omega arith
 
 module _ {v : List ℕ → Verdict} {c : Bool} {s : List ℕ} where
   -- what a reading is, by what stands at its place
@@ -35,30 +20,30 @@ module _ {v : List ℕ → Verdict} {c : Bool} {s : List ℕ} where
   at_stop : {p e : ℕ} {rs : List Found} → p < length s → v (drop p s) ≡ Short → c ≡ false → Reading v c s p rs e → (rs ≡ []) × (e ≡ p)
   at_stop h w f (ends l) = (refl, refl)
   at_stop h w f (stops l q o) = (refl, refl)
-  at_stop h w f (cuts l q o r) = absurd (clash_closed o f)
-  at_stop h w f (skips l q r) = absurd (clash_short q w)
-  at_stop h w f (takes l q r) = absurd (clash w q)
+  at_stop h w f (cuts l q o r) = absurd cc
+  at_stop h w f (skips l q r) = absurd cc
+  at_stop h w f (takes l q r) = absurd cc
 
   at_cut : {p e : ℕ} {rs : List Found} → p < length s → v (drop p s) ≡ Short → c ≡ true → Reading v c s p rs e → Reading v c s (p + 1) rs e
   at_cut h w f (ends l) = absurd (omega arith)
-  at_cut h w f (stops l q o) = absurd (clash_closed f o)
+  at_cut h w f (stops l q o) = absurd cc
   at_cut h w f (cuts l q o r) = r
-  at_cut h w f (skips l q r) = absurd (clash_short q w)
-  at_cut h w f (takes l q r) = absurd (clash w q)
+  at_cut h w f (skips l q r) = absurd cc
+  at_cut h w f (takes l q r) = absurd cc
 
   at_skip : {p e : ℕ} {rs : List Found} → p < length s → v (drop p s) ≡ NoFrame → Reading v c s p rs e → Reading v c s (p + 1) rs e
   at_skip h w (ends l) = absurd (omega arith)
-  at_skip h w (stops l q o) = absurd (clash_short w q)
-  at_skip h w (cuts l q o r) = absurd (clash_short w q)
+  at_skip h w (stops l q o) = absurd cc
+  at_skip h w (cuts l q o r) = absurd cc
   at_skip h w (skips l q r) = r
-  at_skip h w (takes l q r) = absurd (clash_none w q)
+  at_skip h w (takes l q r) = absurd cc
 
   pub at-frame : {p e n k : ℕ} {rs : List Found} → p < length s → v (drop p s) ≡ Frame n k → Reading v c s p rs e
       → (more : List Found) × (rs ≡ found s p n k ∷ more) × Reading v c s (p + n) more e
   at-frame h w (ends l) = absurd (omega arith)
-  at-frame h w (stops l q o) = absurd (clash q w)
-  at-frame h w (cuts l q o r) = absurd (clash q w)
-  at-frame h w (skips l q r) = absurd (clash_none q w)
+  at-frame h w (stops l q o) = absurd cc
+  at-frame h w (cuts l q o r) = absurd cc
+  at-frame h w (skips l q r) = absurd cc
   at-frame {p} {e} {n} {k} h w (takes {n = m} {k = j} {rs = more} l q r) =
       let len : m ≡ n = frame_len (sym q ∙ w) in
       let kind : j ≡ k = frame_kind (sym q ∙ w) in
@@ -115,12 +100,12 @@ module _ {v : List ℕ → Verdict} {reach : ℕ} (laws : Laws v reach) (s t : L
   pub goes_on : {c : Bool} {p e e' : ℕ} {rs rs' : List Found} → Reading v false s p rs e → Reading v c (s ++ t) e rs' e' → Reading v c (s ++ t) p (rs ++ rs') e'
   goes_on (ends l) x = x
   goes_on (stops l q o) x = x
-  goes_on (cuts l q o r) x = absurd (clash_closed o refl)
+  goes_on (cuts l q o r) x = absurd cc
   goes_on {p = p} (skips l q r) x =
-      let w : v (drop p (s ++ t)) ≡ NoFrame = longer p (omega arith) (clash_short q) ∙ q in
+      let w : v (drop p (s ++ t)) ≡ NoFrame = longer p (omega arith) (λ z. cc) ∙ q in
       skips (there p l) w (goes_on r x)
   goes_on {c} {p} {e} {e'} {rs} {rs'} (takes {n = n} {k = k} {rs = more} l q r) x =
-      let w : v (drop p (s ++ t)) ≡ Frame n k = longer p (omega arith) (λ z. clash z q) ∙ q in
+      let w : v (drop p (s ++ t)) ≡ Frame n k = longer p (omega arith) (λ z. cc) ∙ q in
       subst (λ f. Reading v c (s ++ t) p (f ∷ (more ++ rs')) e') (same-found p n k l q) (takes (there p l) w (goes_on r x))
 
 -- where a reading stands at the end
@@ -138,37 +123,8 @@ module _ {v : List ℕ → Verdict} {reach : ℕ} (laws : Laws v reach) where
   -- a closed one ends where the stream does
   pub closed_end : {s : List ℕ} {p e : ℕ} {rs : List Found} → Reading v true s p rs e → p ≤ length s → e ≡ length s
   closed_end (ends l) h = omega arith
-  closed_end (stops l q o) h = absurd (clash_closed refl o)
+  closed_end (stops l q o) h = absurd cc
   closed_end (cuts l q o r) h = closed_end r (omega arith)
   closed_end (skips l q r) h = closed_end r (omega arith)
   closed_end {s} {p} (takes {n = n} {k = k} l q r) h =
       closed_end r (omega (arith, (laws.within (drop p s) n k q).1, length-drop p s))
-
--- the steps of the code, by the verdict that asked for them
-module _ (v : List ℕ → Verdict) (c : Bool) (s : List ℕ) (p : ℕ) (here : p < length s) where
-  pub step_takes : (w : Verdict) (n k : ℕ) → v (drop p s) ≡ w → Take n k ≡ step_of w c → v (drop p s) ≡ Frame n k
-  step_takes NoFrame n k e q = absurd (let z : ◌≡◌ {A = ℕ} 0 1 = cc in omega arith)
-  step_takes Short n k e q = absurd (no_take c q)
-    where
-      no_take : (b : Bool) → Take n k ≡ step_of Short b → ⊥
-      no_take true q = let z : ◌≡◌ {A = ℕ} 0 1 = cc in omega arith
-      no_take false q = let z : ◌≡◌ {A = ℕ} 0 1 = cc in omega arith
-  step_takes (Frame m j) n k e q = let a : n ≡ m = cc in let b : k ≡ j = cc in e ∙ ap (λ i. Frame i j) (sym a) ∙ ap (λ i. Frame n i) (sym b)
-
-  pub step_passes : (w : Verdict) → v (drop p s) ≡ w → Pass ≡ step_of w c → {rs : List Found} {e : ℕ} → Reading v c s (p + 1) rs e → Reading v c s p rs e
-  step_passes NoFrame e q r = skips here e r
-  step_passes Short e q r = cuts here e (closed c q) r
-    where
-      closed : (b : Bool) → Pass ≡ step_of Short b → b ≡ true
-      closed true q = refl
-      closed false q = absurd (let z : ◌≡◌ {A = ℕ} 0 1 = cc in omega arith)
-  step_passes (Frame m j) e q r = absurd (let z : ◌≡◌ {A = ℕ} 0 1 = cc in omega arith)
-
-  pub step_stops : (w : Verdict) → v (drop p s) ≡ w → Stop ≡ step_of w c → Reading v c s p [] p
-  step_stops NoFrame e q = absurd (let z : ◌≡◌ {A = ℕ} 0 1 = cc in omega arith)
-  step_stops Short e q = stops here e (still_open c q)
-    where
-      still_open : (b : Bool) → Stop ≡ step_of Short b → b ≡ false
-      still_open true q = absurd (let z : ◌≡◌ {A = ℕ} 0 1 = cc in omega arith)
-      still_open false q = refl
-  step_stops (Frame m j) e q = absurd (let z : ◌≡◌ {A = ℕ} 0 1 = cc in omega arith)

@@ -1,11 +1,12 @@
 // The frames of a stream that is held whole.
-ghost use Rattle.std.specs.Prelude.{◌≡◌, ◌+◌, ◌≤◌, length, IfOk, string_bytes};
+ghost use Rattle.std.specs.Prelude.{◌≡◌, ◌+◌, ◌≤◌, length, IfOk, Some};
 ghost use Rattle.reading.specs.Reading.{found, series_of};
 ghost use Rattle.reading.specs.Listed.{Listed, line_of, frame_text, totals_text};
 
 use crate::steps::{Next, next_record};
 use framing::verdict::Framing;
 use std::alloc::{AllocError, Global};
+use std::fmt;
 
 // A frame: the number of bytes before it, its length, its kind, and its series, which is 0 for what is no binary frame.
 #[derive(Clone, Copy, PartialEq, Eq, Debug)]
@@ -82,26 +83,33 @@ pub fn list_frames<F: Framing>(
     })
 }
 
-// A frame as a line of text.
-pub fn frame_text(heap: Global, frame: Line) -> Result<String, AllocError>
-    ensures { IfOk result (λ t. string_bytes t ≡ frame_text frame) }
-{
-    let Line {
-        place,
-        len,
-        kind,
-        series,
-    } = frame;
-    format!(in heap; "{place} {len} {kind} {series}")
+// A frame's line of text.
+impl fmt::Display for Line {
+    ghost output = { λ f. Some (frame_text f) };
+
+    fn fmt<W: fmt::Write>(&self, f: &mut fmt::Formatter<W>) -> fmt::Result {
+        let Line {
+            place,
+            len,
+            kind,
+            series,
+        } = *self;
+        write!(f, "{place} {len} {kind} {series}")
+    }
 }
 
-// The totals of a listing as a line of text.
-pub fn totals_text(heap: Global, listing: &Listing) -> Result<String, AllocError>
-    ensures { IfOk result (λ t. string_bytes t ≡ totals_text listing.now) }
-{
-    let bytes = listing.bytes;
-    let frames = listing.frames.len();
-    let framed = listing.in_frames;
-    let passed = listing.passed;
-    format!(in heap; "bytes {bytes} frames {frames} framed {framed} passed {passed}")
+// The line of a listing's totals.
+impl fmt::Display for Listing {
+    ghost output = { λ l. Some (totals_text l) };
+
+    fn fmt<W: fmt::Write>(&self, f: &mut fmt::Formatter<W>) -> fmt::Result {
+        let bytes = self.bytes;
+        let frames = self.frames.len();
+        let framed = self.in_frames;
+        let passed = self.passed;
+        write!(
+            f,
+            "bytes {bytes} frames {frames} framed {framed} passed {passed}"
+        )
+    }
 }

@@ -1,8 +1,9 @@
 // What a register holds of a record, and what an intake counts.
 
 // A record of the stream: how many bytes stand before it, its length, kind and series, its verdict (0 where it is accepted), and
-// the place of its fault (0 where there is none).
-#[derive(Clone, Copy, PartialEq, Eq, Debug)]
+// the place of its fault (0 where there is none). Kind, series, verdict and fault are numbers: any bytes of an archive are entries, and any format
+// may tell numbers of its own.
+#[derive(Clone, Copy, PartialEq, Eq, Debug, Default)]
 pub struct Entry {
     pub place: u64,
     pub len: u16,

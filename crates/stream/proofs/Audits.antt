@@ -16,11 +16,11 @@ use Rattle.stream.specs.Theorems.{HasDrained, here, before, Complete, CutsDoNotM
 use Rattle.stream.proofs.Histories.{ok_open, close_open, progress_of, some_there, none_there}
 
 both : {c : Bool} → c ≡ true → c ≡ false → ⊥
-both a b = let z : ◌≡◌ {A = ℕ} 0 1 = cc in omega arith
+both a b = cc
 
 drained-closed : (c : Bool) → ◌≡◌ {A = Result Taken Fault} (Ok Drained) (Ok (nothing c)) → c ≡ true
 drained-closed true e = refl
-drained-closed false e = absurd (let z : ◌≡◌ {A = ℕ} 0 1 = cc in omega arith)
+drained-closed false e = absurd cc
 
 empty : (rs : List Found) → length rs ≡ 0 → rs ≡ []
 empty [] e = refl
@@ -35,13 +35,13 @@ module _ {t : Terms} (lawful : Lawful t) where
 
   -- a take that finds nothing in a closed stream reaches its end
   now_over : (h : History) (x y : List ℕ) (p : ℕ) → Answered t h → TakeSaid t h x y (Ok Drained) → Reached t (took x y (Ok Drained) ∷ h) p → Over h p
-  now_over h x y p a (short _ _ q) r = absurd (let z : ◌≡◌ {A = ℕ} 0 1 = cc in omega arith)
-  now_over h x y p a (full _ _ _ q) r = absurd (let z : ◌≡◌ {A = ℕ} 0 1 = cc in omega arith)
-  now_over h x y p a (next _ _ front f more e d l y' q) r = absurd (let z : ◌≡◌ {A = ℕ} 0 1 = cc in omega arith)
+  now_over h x y p a (short _ _ q) r = absurd cc
+  now_over h x y p a (full _ _ _ q) r = absurd cc
+  now_over h x y p a (next _ _ front f more e d l y' q) r = absurd cc
   now_over h x y p a (none i j rs e d l w y' q) r =
       let b = progress_of lawful h r.0 a r.3 in
       let o : closed h ≡ true = drained-closed (closed h) q in
-      let n : length r.1 ≡ 0 = none_there lawful h b r.4 (none i j rs e d l w y' q) (λ n e. let z : ◌≡◌ {A = ℕ} 0 1 = cc in omega arith) in
+      let n : length r.1 ≡ 0 = none_there lawful h b r.4 (none i j rs e d l w y' q) (λ n e. cc) in
       let stop : Reads t h r.0 [] r.2 = subst (λ l. Reads t h r.0 l r.2) (empty r.1 n) r.4 in
       let end : r.2 ≡ length (accepted h) = closed_end lawful.framing (subst (λ c. Reading t.verdict c (accepted h) r.0 [] r.2) o stop) b.within in
       record {

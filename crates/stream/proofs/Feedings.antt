@@ -1,32 +1,23 @@
 -- Takes one after the other, and pieces one after the other. Assumes nothing.
-use Rattle.std.proofs.Common.{◌≡◌, ℕ, ◌+◌, ◌-◌, ◌<◌, ◌≤◌, Bool, true, false, cond, List, [], ◌∷◌, ◌++◌, length, drop, is_ok, Ok, Err, Result, sym, refl, ap, ◌∙◌, subst, append_assoc, append-nil, arith, length-append, length-drop}
+use Rattle.std.proofs.Common.{◌≡◌, ℕ, ◌+◌, ◌-◌, ◌≤◌, Bool, true, false, cond, List, [], ◌∷◌, ◌++◌, length, drop, is_ok, Ok, Err, Result, sym, refl, ap, ◌∙◌, subst, append_assoc, append-nil, arith, length-append}
 use Rattle.std.proofs.lemmas.List.{drop-drop}
+use Rattle.common.specs.declared.list.List.{List as ListedIn}
+use Rattle.common.specs.Lists.{items}
+use Rattle.common.specs.Tables.{SameTable}
 use Rattle.register.specs.declared.entry.Entry.{Entry}
 use Rattle.framing.specs.declared.verdict.Verdict.{Verdict}
 use Rattle.format.specs.Meaning.{Meaning}
 use Rattle.stream.specs.declared.answers.Fault.{Fault}
 use Rattle.stream.specs.declared.answers.Taken.{Taken}
-use Rattle.stream.specs.Answers.{nothing, ask_close}
+use Rattle.stream.specs.Answers.{ask_close}
 use Rattle.stream.specs.View.{View, Terms, terms, Delivers, closed_view, entry_of, found_at, Takes, short, full, brings, rests}
 use Rattle.stream.specs.History.{delivered, took, closing, History, accepted, closed}
 use Rattle.stream.specs.Law.{Tied}
-use Rattle.stream.specs.Feeding.{JustSaid, Fed, Feeds, brings_record, Many, none, more, TakesAll, Accepts, Feeding, refused, fed}
-use Rattle.stream.proofs.Histories.{ok_open, held_of, tied_of}
-use Rattle.stream.proofs.Turns.{deliver_held, close-held, take-held}
+use Rattle.stream.specs.Feeding.{JustSaid, Fed, Feeds, Many, none, more, TakesAll, Accepts, Feeding, refused, fed}
+use Rattle.stream.proofs.Histories.{ok_open}
+use Rattle.stream.proofs.Turns.{deliver_tied, close_tied, take_tied}
 
--- a record leaves fewer bytes waiting, and no take takes an entry away
-pub falls : {t : Terms} {v v' : View} {es es' : List Entry} {x y : List ℕ} {r : Result Taken Fault} → Takes t v v' es es' x y r → brings_record r ≡ true
-    → length v'.waiting < length v.waiting
-falls (short a q w e z) b = absurd (let z : ◌≡◌ {A = ℕ} 0 1 = cc in omega arith)
-falls (full a c q w e z) b = absurd (let z : ◌≡◌ {A = ℕ} 0 1 = cc in omega arith)
-falls {v = v} (brings a c place len kind f q w e z) b =
-    omega (arith, ap (λ u. length u.waiting) w, length-drop (place + len) v.waiting, f.some, f.within)
-falls {v = v} (rests a c e f q w i z) b = absurd (not_one v.closed b q)
-  where
-    not_one : {r : Result Taken Fault} (c : Bool) → brings_record r ≡ true → r ≡ Ok (nothing c) → ⊥
-    not_one true b q = let z : ◌≡◌ {A = ℕ} 0 1 = cc in omega arith
-    not_one false b q = let z : ◌≡◌ {A = ℕ} 0 1 = cc in omega arith
-
+-- no take takes an entry away
 pub grows : {t : Terms} {v v' : View} {es es' : List Entry} {x y : List ℕ} {r : Result Taken Fault} → Takes t v v' es es' x y r → length es ≤ length es'
 grows (short a q w e z) = omega (arith, ap length e)
 grows (full a c q w e z) = omega (arith, ap length e)
@@ -38,6 +29,17 @@ pub same_further : {X : Type 0} (a b : List X) (n m : ℕ) → n ≤ m → drop 
 same_further a b n m l e =
     let split : n + (m - n) ≡ m = omega arith in
     ap (λ i. drop i a) (sym split) ∙ sym (drop-drop (m - n) n a) ∙ ap (drop (m - n)) e ∙ drop-drop (m - n) n b ∙ ap (λ i. drop i b) split
+
+-- a list over the same table as one over the same table, that has no fewer items
+pub same_table : {X : Type 0} {a b c : ListedIn X} → length (items b) ≤ length (items c) → SameTable a b → SameTable b c → SameTable a c
+same_table less h k = record {
+  same_room = k.same_room ∙ h.same_room;
+  rest = k.rest ∙ same_further _ _ _ _ less h.rest;
+  lends = k.lends ∙ h.lends;
+}
+
+pub its_own_table : {X : Type 0} {a : ListedIn X} → SameTable a a
+its_own_table = record { same_room = refl; rest = refl; lends = refl }
 
 -- at a register over the same table
 pub at_room : {f : List ℕ → Verdict} {reach : ℕ} {meaning : ℕ → List ℕ → Meaning} {m m' : ℕ} {v v' : View} {es es' : List Entry} {x y : List ℕ} {r : Result Taken Fault}
@@ -55,14 +57,14 @@ many_turned : {t : Terms} {v : View} {es : List Entry} {x : List ℕ} {v' : View
 many_turned none h k = record { turns = []; same = refl; still = refl; stands = k }
 many_turned (more {x₁ = x₁} {x₂ = x₂} {r = r} m d b) h k =
     let a = many_turned m h k in
-    record { turns = took x₁ x₂ r ∷ a.turns; same = a.same; still = a.still; stands = tied_of (take-held (held_of a.stands) d) }
+    record { turns = took x₁ x₂ r ∷ a.turns; same = a.same; still = a.still; stands = take_tied d a.stands }
 
-pub takes-law : {t : Terms} {v v' : View} {es es' : List Entry} {x y : List ℕ} {r : Result Taken Fault} → TakesAll t v v' es es' x y r → Feeds t [] (λ c. c) v v' es es' r
-takes-law {y = y} {r = r} d h k =
+pub takes_law : {t : Terms} {v v' : View} {es es' : List Entry} {x y : List ℕ} {r : Result Taken Fault} → TakesAll t v v' es es' x y r → Feeds t [] (λ c. c) v v' es es' r
+takes_law {y = y} {r = r} d h k =
     let a = many_turned d.many h k in
     record {
       turns = took d.left y r ∷ a.turns;
-      stands = tied_of (take-held (held_of a.stands) d.last);
+      stands = take_tied d.last a.stands;
       takes_in = λ _. a.same ∙ sym (append-nil (accepted h));
       shuts = λ _. a.still;
       says = λ b e. (d.left, y, a.turns ++ h, ap (λ r. took d.left y r ∷ (a.turns ++ h)) e);
@@ -78,22 +80,21 @@ record Begun (t : Terms) (h : History) (bytes : List ℕ) (final : Bool) (v : Vi
 begun : {t : Terms} {h : History} {v v' : View} {es : List Entry} {bytes : List ℕ} {u : Unit {0}} (final : Bool) → Delivers v v' bytes (Ok u) → Tied t h v es
     → Begun t h bytes final (cond final (closed_view v') v') es
 begun {t} {h} {v} {v'} {es} {bytes} {u} true d k =
-    let one = deliver_held (held_of k) v' bytes (Ok u) d in
-    let two = close-held one (closed_view v') (ask_close v'.closed) (record { says = refl; leaves = refl }) in
+    let two : Tied t _ (closed_view v') es = close_tied {r = ask_close v'.closed} (record { says = refl; leaves = refl }) (deliver_tied d k) in
     record {
       turns = closing (ask_close v'.closed) ∷ (delivered bytes (Ok u) ∷ []);
       takes_in = refl;
       shuts = sym two.marked;
-      stands = tied_of two;
+      stands = two;
     }
 begun {t} {h} {v} {v'} {es} {bytes} {u} false d k =
-    let one = deliver_held (held_of k) v' bytes (Ok u) d in
-    let a = one.answered.1 in
+    let one : Tied t (delivered bytes (Ok u) ∷ h) v' es = deliver_tied d k in
+    let a = one.law.answered.1 in
     record {
       turns = delivered bytes (Ok u) ∷ [];
       takes_in = refl;
       shuts = ok_open (closed h) (length (accepted h)) (length (accepted h) - a.0) (length bytes) u a.2;
-      stands = tied_of one;
+      stands = one;
     }
 
 and_then : {t : Terms} {h : History} {bytes : List ℕ} {final : Bool} {v v' : View} {es es' : List Entry} {r : Result Taken Fault}
@@ -112,35 +113,21 @@ pub feeding_law : {t : Terms} {bytes : List ℕ} {final : Bool} {v v' : View} {e
     → Feeding t bytes final v v' es es' x y r → Feeds t bytes (λ _. final) v v' es es' r
 feeding_law {t} {bytes} {final} {v} {v'} {es} {es'} {x} {y} {r} (refused {f = f} d q i z) h k = record {
   turns = delivered bytes (Err f) ∷ [];
-  stands = subst (λ l. Tied t (delivered bytes (Err f) ∷ h) v' l) (sym i) (tied_of (deliver_held (held_of k) v' bytes (Err f) d));
+  stands = subst (λ l. Tied t (delivered bytes (Err f) ∷ h) v' l) (sym i) (deliver_tied d k);
   takes_in = λ ok. absurd (not_ok ok q);
   shuts = λ ok. absurd (not_ok ok q);
-  says = λ a e. absurd (let z : ◌≡◌ {A = ℕ} 0 1 = cc in omega arith);
+  says = λ a e. absurd cc;
 }
   where
     not_ok : is_ok r ≡ true → r ≡ Err f → ⊥
-    not_ok ok q = let z : ◌≡◌ {A = ℕ} 0 1 = cc in omega arith
-feeding_law {final = final} (fed d a) h k = let b = begun final d k in and_then b (takes-law a (b.turns ++ h) b.stands)
-
--- what a piece does, where it is kept and the last, and otherwise
-pub accepts_last : {v a v' : View} {bytes : List ℕ} {final : Bool} (r : Result (Unit {0}) Fault) → Delivers v a bytes r → v' ≡ closed_view a → is_ok r ≡ true → final ≡ true
-    → Accepts bytes final v v' r
-accepts_last {v} {a} {v'} {bytes} {final} r d e ok l = record {
-  after = a;
-  delivers = d;
-  leaves = e ∙ sym (ap (λ b. cond b (cond final (closed_view a) a) v) ok ∙ ap (λ b. cond b (closed_view a) a) l);
-}
-
-pub accepts_else : {v a : View} {bytes : List ℕ} {final : Bool} (r : Result (Unit {0}) Fault) → Delivers v a bytes r → (is_ok r ≡ true → final ≡ false) → Accepts bytes final v a r
-accepts_else {v} {a} {bytes} {final} (Ok u) d l = record { after = a; delivers = d; leaves = sym (ap (λ b. cond b (closed_view a) a) (l refl)) }
-accepts_else (Err f) d l = record { after = _; delivers = d; leaves = d.leaves }
+    not_ok ok q = cc
+feeding_law {final = final} (fed d a) h k = let b = begun final d k in and_then b (takes_law a (b.turns ++ h) b.stands)
 
 -- a piece that was kept, with the takes behind it
 pub feeding : {t : Terms} {bytes : List ℕ} {final : Bool} {v v₁ v' : View} {es es' : List Entry} {x y : List ℕ} {u : Unit {0}} {r : Result Taken Fault}
     → Accepts bytes final v v₁ (Ok u) → TakesAll t v₁ v' es es' x y r → Feeding t bytes final v v' es es' x y r
 feeding {t} {v' = v'} {es = es} {es' = es'} {x = x} {y = y} {r = r} a d = fed a.delivers (subst (λ w. TakesAll t w v' es es' x y r) a.leaves d)
 
-pub not_fed : {t : Terms} {bytes : List ℕ} {final : Bool} {v v₁ : View} {es : List Entry} {x : List ℕ} {f : Fault}
-    → Accepts bytes final v v₁ (Err f) → Feeding t bytes final v v₁ es es x x (Err f)
-not_fed {bytes = bytes} {v = v} {v₁ = v₁} {f = f} a =
-    refused (subst (λ w. Delivers v w bytes (Err f)) (a.delivers.leaves ∙ sym a.leaves) a.delivers) refl refl refl
+pub not_fed : {t : Terms} {bytes : List ℕ} {final : Bool} {v v₁ : View} {es : List Entry} {x : List ℕ} {f : Fault} {r : Result Taken Fault}
+    → Accepts bytes final v v₁ (Err f) → r ≡ Err f → Feeding t bytes final v v₁ es es x x r
+not_fed {bytes = bytes} {v = v} {f = f} a e = refused (subst (λ w. Delivers v w bytes (Err f)) (a.delivers.leaves ∙ sym a.leaves) a.delivers) e refl refl

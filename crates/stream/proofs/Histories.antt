@@ -19,16 +19,16 @@ use Rattle.stream.proofs.Progress.{Progress, nothing_yet, with_more, with_close,
 -- a delivery that is accepted finds the stream open
 pub ok_open : (c : Bool) (a w n : ℕ) (u : Unit {0}) → Ok u ≡ ask_deliver c a w n → c ≡ false
 ok_open false a w n u e = refl
-ok_open true a w n u e = absurd (let z : ◌≡◌ {A = ℕ} 0 1 = cc in omega arith)
+ok_open true a w n u e = absurd cc
 
 pub close_open : (c : Bool) (u : Unit {0}) → Ok u ≡ ask_close c → c ≡ false
 close_open false u e = refl
-close_open true u e = absurd (let z : ◌≡◌ {A = ℕ} 0 1 = cc in omega arith)
+close_open true u e = absurd cc
 
 -- what is said where there is no record is no record
 pub no_record : (c : Bool) (e : Entry) → ◌≡◌ {A = Result Taken Fault} (Ok (Record e)) (Ok (nothing c)) → ⊥
-no_record true e q = let z : ◌≡◌ {A = ℕ} 0 1 = cc in omega arith
-no_record false e q = let z : ◌≡◌ {A = ℕ} 0 1 = cc in omega arith
+no_record true e q = cc
+no_record false e q = cc
 
 first_some : (rs : List Found) → 1 ≤ length rs → length (first rs) ≡ 1
 first_some [] h = absurd (omega arith)
@@ -42,17 +42,17 @@ module _ {t : Terms} (lawful : Lawful t) where
   -- a take that brings finds a record behind the place reached, and one that brings none finds none
   module _ (h : History) {q : ℕ} (b : Progress t.verdict (accepted h) (closed h) (brought h) q) {rs : List Found} {e : ℕ} (r : Reads t h q rs e) where
     pub some_there : {x y : List ℕ} {n : Entry} → TakeSaid t h x y (Ok (Record n)) → 1 ≤ length rs
-    some_there (short a b q) = absurd (let z : ◌≡◌ {A = ℕ} 0 1 = cc in omega arith)
-    some_there (full a b c q) = absurd (let z : ◌≡◌ {A = ℕ} 0 1 = cc in omega arith)
+    some_there (short a b q) = absurd cc
+    some_there (full a b c q) = absurd cc
     some_there (next a c front f more e d l y q) =
         let u = (unique d (whole lawful.framing b rs _ r)).0 in
         omega (arith, ap length u, length-append front (f ∷ more), length-append b.front rs, b.count)
     some_there (none a c rs e d l w y q) = absurd (no_record (closed h) _ q)
 
     pub none_there : {x y : List ℕ} {a : Taken} → TakeSaid t h x y (Ok a) → ((n : Entry) → a ≡ Record n → ⊥) → length rs ≡ 0
-    none_there (short a b q) d = absurd (let z : ◌≡◌ {A = ℕ} 0 1 = cc in omega arith)
-    none_there (full a b c q) d = absurd (let z : ◌≡◌ {A = ℕ} 0 1 = cc in omega arith)
-    none_there {x} {y} {a = w} (next a c front f more e o l y' q) d = absurd (d (entry_of t f) (let z : w ≡ Record (entry_of t f) = cc in z))
+    none_there (short a b q) d = absurd cc
+    none_there (full a b c q) d = absurd cc
+    none_there {x} {y} {a = w} (next a c front f more e o l y' q) d = absurd (d (entry_of t f) cc)
     none_there (none a c rs' e o l w y q) d =
         let u = (unique o (whole lawful.framing b rs _ r)).0 in
         omega (arith, ap length u, length-append b.front rs, b.count, l)
@@ -69,11 +69,11 @@ module _ {t : Terms} (lawful : Lawful t) where
       subst (λ i. Progress t.verdict (accepted h) (closed h) (brought h + 1) i) (sym r.5) (with_take lawful.framing b r.4 (brought h + 1) (omega (arith, one)))
   progress_of (took x y (Ok NotYet) ∷ h) p a r =
       let b = progress_of h r.0 a.0 r.3 in
-      let no_one = first-none r.1 (none_there h b r.4 a.1.2 (λ n e. let z : ◌≡◌ {A = ℕ} 0 1 = cc in omega arith)) in
+      let no_one = first-none r.1 (none_there h b r.4 a.1.2 (λ n e. cc)) in
       subst (λ i. Progress t.verdict (accepted h) (closed h) (brought h) i) (sym r.5) (with_take lawful.framing b r.4 (brought h) (omega (arith, no_one)))
   progress_of (took x y (Ok Drained) ∷ h) p a r =
       let b = progress_of h r.0 a.0 r.3 in
-      let no_one = first-none r.1 (none_there h b r.4 a.1.2 (λ n e. let z : ◌≡◌ {A = ℕ} 0 1 = cc in omega arith)) in
+      let no_one = first-none r.1 (none_there h b r.4 a.1.2 (λ n e. cc)) in
       subst (λ i. Progress t.verdict (accepted h) (closed h) (brought h) i) (sym r.5) (with_take lawful.framing b r.4 (brought h) (omega (arith, no_one)))
   progress_of (took x y (Err f) ∷ h) p a r = progress_of h p a.0 r
   progress_of (closing (Ok u) ∷ h) p a r = with_close (progress_of h p a.0 r)

@@ -3,7 +3,6 @@ pub mod Progress
 pub mod Histories
 pub mod Turns
 pub mod Views
-pub mod Parts
 pub mod Carrying
 pub mod Audits
 pub mod Feedings

@@ -27,7 +27,7 @@ nothing_yet = record { front = []; count = refl; within = omega arith; inside = 
 
 -- an open stream may grow by any bytes
 pub grows : (c : Bool) (t : List ℕ) (d : Bool) → c ≡ false → Grows c t d
-grows true t d o = absurd (let z : ◌≡◌ {A = ℕ} 0 1 = cc in omega arith)
+grows true t d o = absurd cc
 grows false t d o = tt
 
 -- the first of some records, which lie from p on, ends where it is behind it

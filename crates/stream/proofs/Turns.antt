@@ -12,29 +12,13 @@ use Rattle.stream.specs.declared.answers.Fault.TheVariants.{SpaceShort, Register
 use Rattle.stream.specs.declared.answers.Taken.{Taken}
 use Rattle.stream.specs.declared.answers.Taken.TheVariants.{Record}
 use Rattle.stream.specs.Answers.{ask_deliver, ask_close, nothing}
-use Rattle.stream.specs.View.{View, new_view, Terms, Lawful, entry_of, Delivers, Closes, totals, base, found_at, advanced, rested, Takes, short, full, brings, rests}
+use Rattle.stream.specs.View.{View, Terms, entry_of, Delivers, Closes, totals, base, found_at, advanced, rested, Takes, short, full, brings, rests}
 use Rattle.stream.specs.History.{delivered, took, closing, looked, History, accepted, closed, brought, Reads}
 use Rattle.stream.specs.Law as law
-use Rattle.stream.specs.Law.{TakeSaid, Said, Answered, totals_of}
+use Rattle.stream.specs.Law.{TakeSaid, Said, Answered, totals_of, Tied}
 use Rattle.stream.proofs.Works.{in_whole, moved, few-left}
-use Rattle.stream.proofs.Progress.{nothing_yet, with_more, with_close, with_take, whole, front_is}
-use Rattle.stream.proofs.Histories.{Held, ok_open}
-
-pub new_held : {t : Terms} → Lawful t → Held t [] new_view []
-unfolding nothing_yet
-new_held lawful = record {
-  lawful = lawful;
-  place = 0;
-  answered = tt;
-  reached = refl;
-  progress = nothing_yet;
-  entries = refl;
-  waiting = refl;
-  counted = refl;
-  registered = refl;
-  records = refl;
-  marked = refl;
-}
+use Rattle.stream.proofs.Progress.{with_more, with_close, with_take, whole, front_is}
+use Rattle.stream.proofs.Histories.{Held, ok_open, held_of, tied_of}
 
 same-totals : {a b c d e a' b' c' d' e' : ℕ} {o o' : Bool} → a ≡ a' → b ≡ b' → c ≡ c' → d ≡ d' → e ≡ e' → o ≡ o'
     → ◌≡◌ {A = Totals} (record { accepted = a; registered = b; passed = c; waiting = d; records = e; «open» = o })
@@ -78,7 +62,7 @@ module _ {t : Terms} {h : History} {v : View} {es : List Entry} (k : Held t h v 
       ∙ ap (λ w. ask_deliver (closed h) (length s) w n) waits
 
   -- a delivery
-  pub deliver_held : (v' : View) (b : List ℕ) (r : Result (Unit {0}) Fault) → Delivers v v' b r → Held t (delivered b r ∷ h) v' es
+  deliver_held : (v' : View) (b : List ℕ) (r : Result (Unit {0}) Fault) → Delivers v v' b r → Held t (delivered b r ∷ h) v' es
   unfolding with_more
   deliver_held v' b (Ok u) d =
       let said : Ok u ≡ ask_deliver (closed h) (length s) (length s - p) (length b) = d.says ∙ asked (length b) in
@@ -111,9 +95,9 @@ module _ {t : Terms} {h : History} {v : View} {es : List Entry} (k : Held t h v 
   })
 
   -- a closing
-  pub close-held : (v' : View) (r : Result (Unit {0}) Fault) → Closes v v' r → Held t (closing r ∷ h) v' es
+  close_held : (v' : View) (r : Result (Unit {0}) Fault) → Closes v v' r → Held t (closing r ∷ h) v' es
   unfolding with_close
-  close-held v' (Ok u) d = subst (λ w. Held t (closing (Ok u) ∷ h) w es) (sym d.leaves) (record {
+  close_held v' (Ok u) d = subst (λ w. Held t (closing (Ok u) ∷ h) w es) (sym d.leaves) (record {
     lawful = k.lawful;
     place = p;
     answered = (k.answered, (p, k.reached, d.says ∙ ap ask_close k.marked));
@@ -126,7 +110,7 @@ module _ {t : Terms} {h : History} {v : View} {es : List Entry} (k : Held t h v 
     records = k.records;
     marked = refl;
   })
-  close-held v' (Err f) d = subst (λ w. Held t (closing (Err f) ∷ h) w es) (sym d.leaves) (record {
+  close_held v' (Err f) d = subst (λ w. Held t (closing (Err f) ∷ h) w es) (sym d.leaves) (record {
     lawful = k.lawful;
     place = p;
     answered = (k.answered, (p, k.reached, d.says ∙ ap ask_close k.marked));
@@ -142,10 +126,10 @@ module _ {t : Terms} {h : History} {v : View} {es : List Entry} (k : Held t h v 
     where
       refused : (c : Bool) (f : Fault) → Err f ≡ ask_close c → c ≡ true
       refused true f e = refl
-      refused false f e = absurd (let z : ◌≡◌ {A = ℕ} 0 1 = cc in omega arith)
+      refused false f e = absurd cc
 
   -- a look at the totals
-  pub look_held : Held t (looked (totals v) ∷ h) v es
+  look_held : Held t (looked (totals v) ∷ h) v es
   look_held =
       let q = k.progress in
       let x = exists k.lawful.framing (closed h) s 0 in
@@ -169,8 +153,8 @@ module _ {t : Terms} {h : History} {v : View} {es : List Entry} (k : Held t h v 
       }
 
   -- a take that is refused
-  refused-held : (x : List ℕ) (f : Fault) → TakeSaid t h x x (Err f) → Held t (took x x (Err f) ∷ h) v es
-  refused-held x f said = record {
+  refused_held : (x : List ℕ) (f : Fault) → TakeSaid t h x x (Err f) → Held t (took x x (Err f) ∷ h) v es
+  refused_held x f said = record {
     lawful = k.lawful;
     place = p;
     answered = (k.answered, (p, k.reached, said));
@@ -185,10 +169,10 @@ module _ {t : Terms} {h : History} {v : View} {es : List Entry} (k : Held t h v 
   }
 
   -- a take that finds no record
-  rests-held : (x : List ℕ) (e : ℕ) → t.reach ≤ length x → length es < t.room → Reading t.verdict v.closed v.waiting 0 [] e
+  rests_held : (x : List ℕ) (e : ℕ) → t.reach ≤ length x → length es < t.room → Reading t.verdict v.closed v.waiting 0 [] e
       → Held t (took x x (Ok (nothing (closed h))) ∷ h) (rested v e) es
   unfolding with_take
-  rests-held x e a b r =
+  rests_held x e a b r =
       let laws = k.lawful.framing in
       let q = k.progress in
       let r1 : Reading t.verdict (closed h) (drop p s) 0 [] e =
@@ -214,11 +198,11 @@ module _ {t : Terms} {h : History} {v : View} {es : List Entry} (k : Held t h v 
       }
 
   -- a take that brings a record
-  brings-held : (x : List ℕ) (place len kind : ℕ) → t.reach ≤ length x → length es < t.room → Comes t.verdict v.closed v.waiting 0 place len kind
+  brings_held : (x : List ℕ) (place len kind : ℕ) → t.reach ≤ length x → length es < t.room → Comes t.verdict v.closed v.waiting 0 place len kind
       → Held t (took x (take len (drop place v.waiting) ++ drop len x) (Ok (Record (entry_of t (found_at v place len kind)))) ∷ h) (advanced v place len)
       (es ++ (entry_of t (found_at v place len kind) ∷ []))
   unfolding with_take
-  brings-held x place len kind a b c =
+  brings_held x place len kind a b c =
       let laws = k.lawful.framing in
       let q = k.progress in
       let w : List ℕ = drop p s in
@@ -250,8 +234,22 @@ module _ {t : Terms} {h : History} {v : View} {es : List Entry} (k : Held t h v 
       }
 
   -- a take
-  pub take-held : {v' : View} {es' : List Entry} {x y : List ℕ} {r : Result Taken Fault} → Takes t v v' es es' x y r → Held t (took x y r ∷ h) v' es'
-  take-held {x = x} (short a r w e y) = carry r w e y (refused-held x SpaceShort (law.short a refl refl))
-  take-held {x = x} (full a b r w e y) = carry r w e y (refused-held x RegisterFull (law.full a (subst (λ n. t.room ≤ n) many b) refl refl))
-  take-held {x = x} (brings a b place len kind c r w e y) = carry r w e y (brings-held x place len kind a b c)
-  take-held {x = x} (rests a b e c r w i y) = carry (r ∙ ap (λ d. Ok (nothing d)) k.marked) w i y (rests-held x e a b c)
+  take_held : {v' : View} {es' : List Entry} {x y : List ℕ} {r : Result Taken Fault} → Takes t v v' es es' x y r → Held t (took x y r ∷ h) v' es'
+  take_held {x = x} (short a r w e y) = carry r w e y (refused_held x SpaceShort (law.short a refl refl))
+  take_held {x = x} (full a b r w e y) = carry r w e y (refused_held x RegisterFull (law.full a (subst (λ n. t.room ≤ n) many b) refl refl))
+  take_held {x = x} (brings a b place len kind c r w e y) = carry r w e y (brings_held x place len kind a b c)
+  take_held {x = x} (rests a b e c r w i y) = carry (r ∙ ap (λ d. Ok (nothing d)) k.marked) w i y (rests_held x e a b c)
+
+-- the same of what an intake holds
+module _ {t : Terms} {h : History} {v : View} {es : List Entry} where
+  pub deliver_tied : {v' : View} {b : List ℕ} {r : Result (Unit {0}) Fault} → Delivers v v' b r → Tied t h v es → Tied t (delivered b r ∷ h) v' es
+  deliver_tied d k = tied_of (deliver_held (held_of k) _ _ _ d)
+
+  pub close_tied : {v' : View} {r : Result (Unit {0}) Fault} → Closes v v' r → Tied t h v es → Tied t (closing r ∷ h) v' es
+  close_tied d k = tied_of (close_held (held_of k) _ _ d)
+
+  pub look_tied : {s : Totals} → s ≡ totals v → Tied t h v es → Tied t (looked s ∷ h) v es
+  look_tied e k = subst (λ s. Tied t (looked s ∷ h) v es) (sym e) (tied_of (look_held (held_of k)))
+
+  pub take_tied : {v' : View} {es' : List Entry} {x y : List ℕ} {r : Result Taken Fault} → Takes t v v' es es' x y r → Tied t h v es → Tied t (took x y r ∷ h) v' es'
+  take_tied d k = tied_of (take_held (held_of k) d)

@@ -1,11 +1,12 @@
 -- Readings worked on: in a part of the stream, in a longer stream, and behind the first record. Assumes nothing.
-use Rattle.std.proofs.Common.{◌≡◌, ℕ, ◌+◌, ◌-◌, ◌<◌, ◌≤◌, Bool, true, false, List, [], ◌∷◌, ◌++◌, map, length, take, drop, sym, ap, ◌∙◌, subst, inl, inr, append-nil, arith, length-append, length-drop, length-take}
+use Rattle.std.proofs.lemmas.Grind.{common_steps}
+use Rattle.std.proofs.Common.{◌≡◌, ℕ, ◌+◌, ◌-◌, ◌<◌, ◌≤◌, Bool, true, false, List, [], ◌∷◌, ◌++◌, map, length, take, drop, sym, ap, ◌∙◌, subst, inl, inr, append-nil, arith, length-append, length-drop}
 use Rattle.std.specs.List.{AllByRecursion}
-use Rattle.std.proofs.lemmas.List.{drop-drop, drop-append-le, take-append-le}
+use Rattle.std.proofs.lemmas.List.{drop-drop, drop-append-le}
 use Rattle.std.proofs.ByRecursion.{All-weaker}
 use Rattle.std.proofs.lemmas.Bool.{cases_lt}
 use Rattle.framing.specs.declared.verdict.Verdict.{Verdict}
-use Rattle.framing.specs.declared.verdict.Verdict.TheVariants.{NoFrame, Short, Frame}
+use Rattle.framing.specs.declared.verdict.Verdict.TheVariants.{Short, Frame}
 use Rattle.framing.specs.Verdicts.{Laws}
 use Rattle.reading.specs.Reading.{Found, found, Reading, ends, stops, cuts, skips, takes}
 use Rattle.stream.specs.History.{behind}
@@ -45,12 +46,6 @@ abbrev pub first : List Found → List Found
 first [] = []
 first (f ∷ rs) = f ∷ []
 
-clash : {w : Verdict} → w ≡ NoFrame → w ≡ Short → ⊥
-clash a b = let z : ◌≡◌ {A = ℕ} 0 1 = cc in omega arith
-
-clash_frame : {w : Verdict} {n k : ℕ} → w ≡ Frame n k → w ≡ Short → ⊥
-clash_frame a b = let z : ◌≡◌ {A = ℕ} 0 1 = cc in omega arith
-
 module _ {v : List ℕ → Verdict} {reach : ℕ} (laws : Laws v reach) where
   longer : (s t : List ℕ) (p : ℕ) → p ≤ length s → (v (drop p s) ≡ Short → ⊥) → v (drop p (s ++ t)) ≡ v (drop p s)
   longer s t p h d = ap v (drop-append-le p s t h) ∙ laws.stays (drop p s) t d
@@ -59,12 +54,10 @@ module _ {v : List ℕ → Verdict} {reach : ℕ} (laws : Laws v reach) where
   fits s p n k l q = omega (arith, (laws.within (drop p s) n k q).1, length-drop p s)
 
   same_bytes : (s t : List ℕ) (p n : ℕ) → p + n ≤ length s → take n (drop p (s ++ t)) ≡ take n (drop p s)
-  same_bytes s t p n h =
-      let inside : n ≤ length (drop p s) = simp length-drop (omega arith) in
-      ap (take n) (drop-append-le p s t (omega arith)) ∙ take-append-le n (drop p s) t inside
+  same_bytes s t p n h = grind (arith, common_steps)
 
   long : (s : List ℕ) (p n : ℕ) → p + n ≤ length s → length (take n (drop p s)) ≡ n
-  long s p n h = simp (length-take, length-drop) (omega arith)
+  long s p n h = grind (arith, common_steps)
 
   -- where the bytes before a place are read so, the first record or none, they are in a longer stream too
   pub works_on : (c : Bool) (s t : List ℕ) (d : Bool) → Grows c t d → {p e : ℕ} {rs : List Found} → Reading v c s p rs e
@@ -75,12 +68,12 @@ module _ {v : List ℕ → Verdict} {reach : ℕ} (laws : Laws v reach) where
       let same : s ++ t ≡ s = ap (λ u. s ++ u) g.0 ∙ append-nil s in
       let on = works_on true s t d g r x in
       cuts (subst (λ u. p < length u) (sym same) l) (ap (λ u. v (drop p u)) same ∙ q) g.1 on
-  works_on false s t d g (cuts l q o r) x = absurd (let z : ◌≡◌ {A = ℕ} 0 1 = cc in omega arith)
+  works_on false s t d g (cuts l q o r) x = absurd cc
   works_on c s t d g {p} (skips l q r) x =
-      skips (simp length-append (omega arith)) (longer s t p (omega arith) (clash q) ∙ q) (works_on c s t d g r x)
+      skips (simp length-append (omega arith)) (longer s t p (omega arith) (λ z. cc) ∙ q) (works_on c s t d g r x)
   works_on c s t d g {p} {e} (takes {n = n} {k = k} {rs = rs} l q r) {e'} {rs'} x =
       let inside = fits s p n k l q in
-      let w : v (drop p (s ++ t)) ≡ Frame n k = longer s t p (omega arith) (clash_frame q) ∙ q in
+      let w : v (drop p (s ++ t)) ≡ Frame n k = longer s t p (omega arith) (λ z. cc) ∙ q in
       let there : p < length (s ++ t) = simp length-append (omega arith) in
       let y : Reading v d (s ++ t) (p + n) rs' e' = subst (λ m. Reading v d (s ++ t) (p + m) rs' e') (long s p n inside) x in
       subst (λ b. Reading v d (s ++ t) p (record { place = p; bytes = b; kind = k } ∷ rs') e') (same_bytes s t p n inside) (takes there w y)

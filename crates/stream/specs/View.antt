@@ -5,7 +5,7 @@ use Rattle.register.specs.declared.entry.Totals.{Totals}
 use Rattle.framing.specs.declared.verdict.Verdict.{Verdict}
 use Rattle.framing.specs.Verdicts.{Laws as FramingLaws}
 use Rattle.reading.specs.Reading.{Found, Reading, Comes, series_of}
-use Rattle.format.specs.Meaning.{Meaning, Laws as FormatLaws}
+use Rattle.format.specs.Meaning.{Meaning, verdict_number, fault_place, Laws as FormatLaws}
 use Rattle.stream.specs.declared.answers.Fault.{Fault}
 use Rattle.stream.specs.declared.answers.Fault.TheVariants.{SpaceShort, RegisterFull}
 use Rattle.stream.specs.declared.answers.Taken.{Taken}
@@ -57,8 +57,8 @@ entry_by meaning f = record {
   len = length f.bytes;
   kind = f.kind;
   series = series_of f.kind f.bytes;
-  verdict = (meaning f.kind f.bytes).judgement.number;
-  fault = (meaning f.kind f.bytes).judgement.place;
+  verdict = verdict_number (meaning f.kind f.bytes).judgement;
+  fault = fault_place (meaning f.kind f.bytes).judgement;
 }
 
 abbrev pub entry_of : Terms → Found → Entry

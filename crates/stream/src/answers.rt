@@ -20,11 +20,11 @@ pub enum Fault {
     RegisterFull,
 }
 
-impl Fault {
-    pub fn refusal(self) -> Refusal
-        ensures { result ≡ told self }
-    {
-        let number = match self {
+impl From<Fault> for Refusal {
+    ghost from_gives = { λ f r. r ≡ told f };
+
+    fn from(fault: Fault) -> Refusal {
+        let number = match fault {
             Fault::Closed => 1,
             Fault::TooMany => 2,
             Fault::NoRoom => 3,

@@ -53,6 +53,7 @@ impl Intake {
     }
 
     // Puts bytes behind those that wait.
+    #[tactic(auto, using(crate::proofs::Views::behind_them))]
     fn append(&mut self, bytes: &[u8])
         requires { (self.old.end + length bytes.now ≤ 16384) × ((self.old.end + length bytes.now ≤ self.old.start + 8192) × (self.old.accepted + length bytes.now ≤ 1099511627776)) }
         ensures { view self.new ≡ with_bytes (view self.old) bytes.now }
@@ -74,12 +75,10 @@ impl Intake {
     fn keep(&mut self, bytes: &[u8]) -> Result<(), Fault>
         ensures { Delivers (view self.old) (view self.new) bytes.now result }
     {
-        let answer = self.room_for(bytes.len());
-        if answer.is_ok() {
-            self.make_room(bytes.len());
-            self.append(bytes);
-        }
-        answer
+        self.room_for(bytes.len())?;
+        self.make_room(bytes.len());
+        self.append(bytes);
+        Ok(())
     }
 
     // Whether a delivery of `n` bytes would be accepted.
@@ -118,6 +117,7 @@ impl Intake {
     }
 
     // The totals: accepted bytes are registered, passed over or waiting.
+    #[tactic(auto, using(crate::proofs::Turns::look_tied))]
     pub fn tell(&self) -> Totals
         ensures does { result ≡ totals (view self.now) }
         ensures law { (t : Terms) (h : History) (es : Sequence Entry) → Tied t h (view self.now) es → Tied t (looked result ∷ h) (view self.now) es }

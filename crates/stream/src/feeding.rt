@@ -1,6 +1,7 @@
 // A stream fed piece by piece, each piece followed by all takes that bring a record.
 ghost use Rattle.std.specs.Prelude.{◌≡◌, ◌-◌, [], length, drop};
 ghost use Rattle.common.specs.Lists.{items, room};
+ghost use Rattle.common.specs.Tables.{SameTable};
 ghost use Rattle.stream.specs.View.{view, terms};
 ghost use Rattle.stream.specs.Feeding.{Feeds, Accepts, brings_record, TakesAll, Feeding};
 
@@ -28,10 +29,8 @@ impl Intake {
         space: &mut [u8],
     ) -> Result<Taken, Fault>
         ensures does { TakesAll (terms (F.Framing.verdict framing.now) (F.Framing.reach framing.now) (G.Format.meaning formats.now) (room register.old)) (view self.old) (view self.new) (items register.old) (items register.new) space.old space.new result }
-        ensures rest { drop (length (items register.new)) register.new.table.now ≡ drop (length (items register.new)) register.old.table.now }
         ensures law { Feeds (terms (F.Framing.verdict framing.now) (F.Framing.reach framing.now) (G.Format.meaning formats.now) (room register.old)) [] (λ c. c) (view self.old) (view self.new) (items register.old) (items register.new) result }
-        ensures room { room register.new ≡ room register.old }
-        ensures lends { register.new.table.ghost_name ≡ register.old.table.ghost_name }
+        ensures table { SameTable register.old register.new }
     {
         loop {
             let answer = self.take(framing, formats, register, space);
@@ -52,14 +51,10 @@ impl Intake {
         last: bool,
     ) -> Result<Taken, Fault>
         ensures does { Feeding (terms (F.Framing.verdict framing.now) (F.Framing.reach framing.now) (G.Format.meaning formats.now) (room register.old)) bytes.now last (view self.old) (view self.new) (items register.old) (items register.new) space.old space.new result }
-        ensures rest { drop (length (items register.new)) register.new.table.now ≡ drop (length (items register.new)) register.old.table.now }
         ensures law { Feeds (terms (F.Framing.verdict framing.now) (F.Framing.reach framing.now) (G.Format.meaning formats.now) (room register.old)) bytes.now (λ _. last) (view self.old) (view self.new) (items register.old) (items register.new) result }
-        ensures room { room register.new ≡ room register.old }
-        ensures lends { register.new.table.ghost_name ≡ register.old.table.ghost_name }
+        ensures table { SameTable register.old register.new }
     {
-        if let Err(fault) = self.accept(bytes, last) {
-            return Err(fault);
-        }
+        self.accept(bytes, last)?;
         self.take_all(framing, formats, register, space)
     }
 
@@ -67,11 +62,11 @@ impl Intake {
     fn accept(&mut self, bytes: &[u8], last: bool) -> Result<(), Fault>
         ensures { Accepts bytes.now last (view self.old) (view self.new) result }
     {
-        let answer = self.deliver(bytes);
-        if last && answer.is_ok() {
-            let _ = self.close();
+        self.deliver(bytes)?;
+        if last {
+            self.close()?;
         }
-        answer
+        Ok(())
     }
 }
 

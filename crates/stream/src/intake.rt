@@ -6,7 +6,7 @@ pub(crate) const MOST_WAITING: usize = 8192;
 
 pub(crate) const BUFFER: usize = 16384;
 
-// The bytes from `start` to `end` wait. The buffer is twice as long as what may wait, so that no byte is moved to its front twice:
+// The memory is fixed, and no call allocates. The bytes from `start` to `end` wait. The buffer is twice as long as what may wait, so that no byte is moved to its front twice:
 // the cost of a byte is constant over its life.
 #[derive(Drop)]
 pub struct Intake {

@@ -1,6 +1,7 @@
 // Lists of requests, run one after the other.
 ghost use Rattle.std.specs.Prelude.{◌≡◌, ◌≤◌, min, [], ◌∷◌, length, take, drop};
 ghost use Rattle.common.specs.Lists.{items, room};
+ghost use Rattle.common.specs.Tables.{SameTable};
 ghost use Rattle.stream.specs.View.{view, terms};
 ghost use Rattle.stream.specs.Requests.{Carries, Ran};
 
@@ -10,7 +11,7 @@ use format::format::Format;
 use framing::verdict::Framing;
 use register::entry::{Entry, Totals};
 
-// One turn that is asked for.
+// One turn that is asked for. Turns are values, since the law speaks of lists of them; closures would hide which call each makes.
 #[derive(Clone, Copy, PartialEq, Eq, Debug)]
 pub enum Request {
     // Deliver as many of the bytes from `start` on as there are, at most `len`.
@@ -48,9 +49,8 @@ fn turn<F: Framing, G: Format>(
     request: Request,
 )
     ensures law { Carries (terms (F.Framing.verdict framing.now) (F.Framing.reach framing.now) (G.Format.meaning formats.now) (room register.old)) bytes.now (request ∷ []) (view intake.old) (view intake.new) (items register.old) (items register.new) space.old space.new }
-    ensures rest { (length (items register.old) ≤ length (items register.new)) × (drop (length (items register.new)) register.new.table.now ≡ drop (length (items register.new)) register.old.table.now) }
-    ensures room { room register.new ≡ room register.old }
-    ensures lends { register.new.table.ghost_name ≡ register.old.table.ghost_name }
+    ensures more { length (items register.old) ≤ length (items register.new) }
+    ensures table { SameTable register.old register.new }
 {
     match request {
         Request::Deliver { start, len } => {
@@ -80,9 +80,8 @@ pub fn run<F: Framing, G: Format>(
     requests: &[Request],
 )
     ensures law { Carries (terms (F.Framing.verdict framing.now) (F.Framing.reach framing.now) (G.Format.meaning formats.now) (room register.old)) bytes.now requests.now (view intake.old) (view intake.new) (items register.old) (items register.new) space.old space.new }
-    ensures rest { (length (items register.old) ≤ length (items register.new)) × (drop (length (items register.new)) register.new.table.now ≡ drop (length (items register.new)) register.old.table.now) }
-    ensures room { room register.new ≡ room register.old }
-    ensures lends { register.new.table.ghost_name ≡ register.old.table.ghost_name }
+    ensures more { length (items register.old) ≤ length (items register.new) }
+    ensures table { SameTable register.old register.new }
 {
     for request in requests {
         turn(framing, formats, intake, register, space, bytes, *request);

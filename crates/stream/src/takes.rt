@@ -1,6 +1,7 @@
 // Taking the next record.
 ghost use Rattle.std.specs.Prelude.{◌≡◌, ℕ, ◌+◌, ◌-◌, ◌<◌, ◌≤◌, List as Sequence, ◌∷◌, ◌++◌, length, take, drop};
 ghost use Rattle.common.specs.Lists.{items, room};
+ghost use Rattle.common.specs.Tables.{SameTable};
 ghost use Rattle.register.specs.declared.entry.Entry.{Entry};
 ghost use Rattle.reading.specs.Reading.{NextOf};
 ghost use Rattle.stream.specs.Answers.{nothing};
@@ -25,14 +26,17 @@ fn entry_of<G: Format>(formats: &G, place: u64, kind: u8, bytes: &[u8]) -> Entry
     requires { length bytes.now ≤ 8192 }
     ensures { result ≡ entry_by (G.Format.meaning formats.now) (record { place = place; bytes = bytes.now; kind = kind }) }
 {
-    let judgement = formats.judge(kind, bytes);
+    let (verdict, fault) = match formats.judge(kind, bytes) {
+        Ok(()) => (0, 0),
+        Err(fault) => (fault.number, fault.place as u16),
+    };
     Entry {
         place,
         len: bytes.len() as u16,
         kind,
         series: series_of(kind, bytes),
-        verdict: judgement.number,
-        fault: judgement.place as u16,
+        verdict,
+        fault,
     }
 }
 
@@ -48,22 +52,17 @@ fn without_record(closed: bool) -> Taken
 }
 
 impl Intake {
-    // What comes next in the reading of the waiting bytes.
-    fn look_ahead<F: Framing>(&self, framing: &F) -> Next
-        ensures { NextOf (F.Framing.verdict framing.now) (view self.now).closed (view self.now).waiting 0 result }
-    {
-        next_record(framing, &self.bytes[self.start..self.end], 0, self.closed)
-    }
-
-    // The same, and that it lies among the waiting bytes.
+    // What comes next in the reading of the waiting bytes, and that it lies among them.
+    #[tactic(auto, using(crate::proofs::Views::next_within))]
     fn seek<F: Framing>(&self, framing: &F) -> Next
         ensures next { NextOf (F.Framing.verdict framing.now) (view self.now).closed (view self.now).waiting 0 result }
         ensures within { NextWithin self.now.start self.now.end (F.Framing.reach framing.now) result }
     {
-        self.look_ahead(framing)
+        next_record(framing, &self.bytes[self.start..self.end], 0, self.closed)
     }
 
-    // Copies a record of the waiting bytes to the front of a space.
+    // Copies a record of the waiting bytes to the front of a space. That it lies among them is asked here and in the next calls: what was found is a
+    // `Next`, and a type of found records would be one more.
     fn copy_out(&self, place: usize, len: usize, space: &mut [u8])
         requires { (self.now.start + (place + len) ≤ self.now.end) × (len ≤ length space.old) }
         ensures { space.new ≡ take len (drop place (view self.now).waiting) ++ drop len space.old }
@@ -73,6 +72,7 @@ impl Intake {
     }
 
     // Goes on behind some of the waiting bytes.
+    #[tactic(auto, using(crate::proofs::Views::off_front))]
     fn skip(&mut self, n: usize)
         requires { self.old.start + n ≤ self.old.end }
         ensures view { view self.new ≡ rested (view self.old) n }
@@ -115,9 +115,7 @@ impl Intake {
         space: &mut [u8],
     ) -> Result<Taken, Fault>
         ensures does { Takes (terms (F.Framing.verdict framing.now) (F.Framing.reach framing.now) (G.Format.meaning formats.now) (room register.old)) (view self.old) (view self.new) (items register.old) (items register.new) space.old space.new result }
-        ensures rest { drop (length (items register.new)) register.new.table.now ≡ drop (length (items register.new)) register.old.table.now }
-        ensures room { room register.new ≡ room register.old }
-        ensures lends { register.new.table.ghost_name ≡ register.old.table.ghost_name }
+        ensures table { SameTable register.old register.new }
     {
         if space.len() < framing.limit() {
             return Err(Fault::SpaceShort);
@@ -142,7 +140,7 @@ impl Intake {
     }
 
     // Brings the next record: copies it to the front of the space, registers it and answers its entry. Where there is none, says whether
-    // one may still come.
+    // one may still come. Framing, formats, register and space stay four parameters, by the rule that each is lent to each call and an intake keeps none.
     pub fn take<F: Framing, G: Format>(
         &mut self,
         framing: &F,
@@ -151,9 +149,7 @@ impl Intake {
         space: &mut [u8],
     ) -> Result<Taken, Fault>
         ensures does { Takes (terms (F.Framing.verdict framing.now) (F.Framing.reach framing.now) (G.Format.meaning formats.now) (room register.old)) (view self.old) (view self.new) (items register.old) (items register.new) space.old space.new result }
-        ensures rest { drop (length (items register.new)) register.new.table.now ≡ drop (length (items register.new)) register.old.table.now }
-        ensures room { room register.new ≡ room register.old }
-        ensures lends { register.new.table.ghost_name ≡ register.old.table.ghost_name }
+        ensures table { SameTable register.old register.new }
         ensures law { (h : History) → Tied (terms (F.Framing.verdict framing.now) (F.Framing.reach framing.now) (G.Format.meaning formats.now) (room register.old)) h (view self.old) (items register.old) → Tied (terms (F.Framing.verdict framing.now) (F.Framing.reach framing.now) (G.Format.meaning formats.now) (room register.old)) (took space.old space.new result ∷ h) (view self.new) (items register.new) }
     {
         self.work_on(framing, formats, register, space)

@@ -12,6 +12,8 @@ use Rattle.format.specs.Meaning.{Meaning}
 use Rattle.stream.specs.View.{View, Terms, terms}
 use Rattle.stream.specs.History.{History}
 use Rattle.stream.specs.Law.{Tied}
+use Rattle.std.specs.Result.{IsErr}
+use Rattle.std.proofs.lemmas.Bool.{false≢true}
 use Rattle.stream.specs.Feeding.{JustSaid, Feeds}
 use Rattle.survey.specs.Registered.{Registers}
 
@@ -58,10 +60,11 @@ ends_otherwise r on no_end is-told h tied =
     let so_far = on h tied in
     record { turns = so_far.0; stands = so_far.1; drained = λ e. absurd (no_end e); refused = is-told }
 
-pub ends_failed : {t : Terms} {v v' : View} {es es' : List Entry} (e : Error) → Goes_on t v v' es es' → Registers t v v' es es' (Err e)
-ends_failed e on =
+pub ends_failed : {t : Terms} {v v' : View} {es es' : List Entry} (r : Result (Option Refusal) Error) → IsErr r → Goes_on t v v' es es' → Registers t v v' es es' r
+ends_failed (Err e) bad on =
     ends_otherwise (Err e) on (λ s. let z : ◌≡◌ {A = ℕ} 0 1 = cc in omega arith)
     (λ x s. absurd (let z : ◌≡◌ {A = ℕ} 0 1 = cc in omega arith))
+ends_failed (Ok a) bad on = absurd (false≢true bad)
 
 pub ends-refused : {t : Terms} {v v' : View} {es es' : List Entry} (f : Fault) (x : Refusal) → x ≡ told f → Goes_on t v v' es es'
     → Registers t v v' es es' (Ok (Some x))

@@ -1,5 +1,5 @@
 // Standard input, fed to an intake.
-ghost use Rattle.std.specs.Prelude.{◌≡◌};
+ghost use Rattle.std.specs.Prelude.{◌≡◌, ◌≤◌, length, IfOk};
 ghost use Rattle.common.specs.Lists.{items, room};
 ghost use Rattle.stream.specs.View.{view, terms};
 ghost use Rattle.survey.specs.Registered.{Registers};
@@ -16,7 +16,22 @@ use register::entry::Entry;
 use stream::answers::Taken;
 use stream::intake::Intake;
 
-// Feeds standard input to an intake, piece by piece, by any framing and formats, until it ends or a call is refused.
+// Reads the next piece of standard input into a space, at most as many bytes as may wait: how many they are, and whether the input ends with them.
+pub fn next_piece(
+    rt: &HostRuntime,
+    intake: &Intake,
+    piece: &mut [u8],
+) -> anyhow::Result<(usize, bool)>
+    ensures { IfOk result (λ p. p.0 ≤ length piece.old) }
+{
+    let free = intake.free().min(piece.len());
+    let n = fill(rt, &mut piece[0..free])?;
+    Ok((n, n < free))
+}
+
+// Feeds standard input to an intake, piece by piece, by any framing and formats, until it ends or a call is refused. The loop has a bound that no
+// input reaches, since a loop must be seen to end. A refusal is no failure of reading, so it is answered beside the errors. What is lent to each take
+// is lent here, each by itself.
 pub fn feed_all<F: Framing, G: Format>(
     rt: &HostRuntime,
     framing: &F,
@@ -30,18 +45,15 @@ pub fn feed_all<F: Framing, G: Format>(
     ensures room { room register.new ≡ room register.old }
     ensures lends { register.new.table.ghost_name ≡ register.old.table.ghost_name }
 {
+    if piece.is_empty() {
+        return Err(anyhow!("a piece without room brings no byte"));
+    }
     for _ in 0..u64::MAX {
-        let free = intake.free().min(piece.len());
-        let n = match fill(rt, &mut piece[0..free]) {
-            Ok(n) => n,
-            Err(e) => return Err(e),
-        };
-        match intake.feed(framing, formats, register, space, &piece[0..n], n < free) {
-            Err(fault) => return Ok(Some(fault.refusal())),
-            Ok(taken) => match taken {
-                Taken::Drained => return Ok(None),
-                _ => {}
-            },
+        let (n, last) = next_piece(rt, intake, piece)?;
+        match intake.feed(framing, formats, register, space, &piece[0..n], last) {
+            Err(fault) => return Ok(Some(Refusal::from(fault))),
+            Ok(Taken::Drained) => return Ok(None),
+            Ok(_) => {}
         }
     }
     Err(anyhow!("the input does not end"))

@@ -9,7 +9,7 @@ use std::io::{BufWriter, Stdout, Write};
 
 const LINE: usize = 160;
 
-// Writes a line, unless it did not fit.
+// Writes a line, unless it did not fit. The call that makes it writes to any space that it is lent, so the line is a buffer and a length.
 fn put(
     out: &mut BufWriter<Stdout>,
     line: &[u8; LINE],
@@ -48,9 +48,7 @@ pub fn conclude(rt: &HostRuntime, refused: Option<Refusal>, undone: &str) -> any
     ensures { is_ok result ≡ not (is_some refused) }
 {
     if let Some(refusal) = refused {
-        let number = refusal.number;
-        let words = refusal.meaning();
-        eprintln!(rt; "refused, {number}: {words}")?;
+        eprintln!(rt; "refused, {refusal}")?;
         return Err(anyhow!("{undone}"));
     }
     Ok(())

@@ -1,11 +1,10 @@
 // The framings and formats of a survey, and the table of its register.
 ghost use Rattle.std.specs.Prelude.{◌≡◌, replicate, IfOk};
 
-use format::pair::Pair as Formats;
+use common::pair::Pair;
 use format::sentence::SentenceFields;
 use format::text::Text;
 use framing::binary::Binary;
-use framing::pair::Pair;
 use framing::sentence::Sentence;
 use register::entry::Entry;
 use velocity::df3::Df3;
@@ -15,7 +14,7 @@ use velocity::df7::Df7;
 pub type Framings = Pair<Binary, Sentence>;
 
 // Velocity records, then string records and sentences.
-pub type RecordFormats = Formats<Formats<Df3, Df7>, Formats<Text, SentenceFields>>;
+pub type RecordFormats = Pair<Pair<Df3, Df7>, Pair<Text, SentenceFields>>;
 
 // How many entries a register holds.
 pub const ENTRIES: usize = 3968;
@@ -31,12 +30,12 @@ pub fn both_framings() -> Framings {
 }
 
 pub fn all_formats() -> RecordFormats {
-    Formats {
-        first: Formats {
+    Pair {
+        first: Pair {
             first: Df3,
             second: Df7,
         },
-        second: Formats {
+        second: Pair {
             first: Text,
             second: SentenceFields,
         },
@@ -47,13 +46,5 @@ pub fn all_formats() -> RecordFormats {
 pub fn entry_table(rt: &HostRuntime, entries: usize) -> anyhow::Result<Vec<Entry>>
     ensures { IfOk result (λ t. t.items ≡ replicate entries (record { place = 0; len = 0; kind = 0; series = 0; verdict = 0; fault = 0 })) }
 {
-    let none = Entry {
-        place: 0,
-        len: 0,
-        kind: 0,
-        series: 0,
-        verdict: 0,
-        fault: 0,
-    };
-    Ok(vec![in rt.alloc(); none; entries]?)
+    Ok(vec![in rt.alloc(); Entry::default(); entries]?)
 }

@@ -3,6 +3,7 @@
 
 use anyhow::anyhow;
 use calendar::stamps::stamp_of;
+use common::refusal::Refusal;
 use std::env;
 use std::io::Write;
 use std::time::SystemTime;
@@ -15,28 +16,32 @@ stand in front of the text, as `2017-01-24 08:42:57.449 - TEXT`.";
 // The longest frame.
 const SPACE: usize = 8192;
 
-// What the arguments ask for.
+// The tag that the arguments ask for.
 #[derive(Drop)]
-enum Wanted {
-    Help,
-    Tag { clock: bool, text: String },
+struct Wanted {
+    clock: bool,
+    text: String,
 }
 
+// Tells the usage on standard error, as an error.
+fn misused(rt: &HostRuntime) -> anyhow::Result<Option<Wanted>> {
+    rt.eprintln(USAGE)?;
+    Err(anyhow!("one text is wanted"))
+}
+
+// The tag that is asked for; none where only the usage is.
 fn read_arguments(rt: &HostRuntime) -> anyhow::Result<Option<Wanted>> {
     let mut clock = false;
     let mut options = true;
     let mut text = None;
-    for (i, arg) in env::args(rt)?.enumerate() {
-        if i == 0 {
-            continue;
-        }
+    for arg in env::args(rt)?.skip(1) {
         match arg.as_str() {
-            "--help" | "-h" if options => return Ok(Some(Wanted::Help)),
+            "--help" | "-h" if options => return Ok(None),
             "--clock" if options => clock = true,
             "--" if options => options = false,
             _ => {
                 if text.is_some() {
-                    return Ok(None);
+                    return misused(rt);
                 }
                 options = false;
                 text = Some(arg);
@@ -44,8 +49,8 @@ fn read_arguments(rt: &HostRuntime) -> anyhow::Result<Option<Wanted>> {
         }
     }
     match text {
-        Some(text) => Ok(Some(Wanted::Tag { clock, text })),
-        None => Ok(None),
+        Some(text) => Ok(Some(Wanted { clock, text })),
+        None => misused(rt),
     }
 }
 
@@ -56,10 +61,7 @@ fn clock_text(rt: &HostRuntime) -> anyhow::Result<[u8; 23]> {
         return Err(anyhow!("the clock stands before 1970"));
     };
     let millis = u64::try_from(span.as_millis())?;
-    match stamp_of(millis) {
-        Some(stamp) => Ok(stamp),
-        None => Err(anyhow!("the clock stands past the year 9999")),
-    }
+    stamp_of(millis).ok_or(anyhow!("the clock stands past the year 9999"))
 }
 
 // The text of the tag's record.
@@ -84,30 +86,20 @@ fn write_record(rt: &HostRuntime, text: &[u8]) -> anyhow::Result<()> {
         }
         Ok(_) => Err(anyhow!("the record is longer than its space")),
         Err(full) => {
-            let refusal = full.refusal();
-            let number = refusal.number;
-            let words = refusal.meaning();
-            eprintln!(rt; "refused, {number}: {words}")?;
+            let refusal = Refusal::from(full);
+            eprintln!(rt; "refused, {refusal}")?;
             Err(anyhow!("the text is too long for one record"))
         }
     }
 }
 
 fn run(rt: &HostRuntime) -> anyhow::Result<()> {
-    match read_arguments(rt)? {
-        Some(Wanted::Help) => {
-            rt.println(USAGE)?;
-            Ok(())
-        }
-        Some(Wanted::Tag { clock, text }) => {
-            let bytes = record_text(rt, clock, text.as_str())?;
-            write_record(rt, &bytes)
-        }
-        None => {
-            rt.eprintln(USAGE)?;
-            Err(anyhow!("one text is wanted"))
-        }
-    }
+    let Some(Wanted { clock, text }) = read_arguments(rt)? else {
+        rt.println(USAGE)?;
+        return Ok(());
+    };
+    let bytes = record_text(rt, clock, text.as_str())?;
+    write_record(rt, &bytes)
 }
 
 fn main(rt: HostRuntime) -> anyhow::Result<()> {

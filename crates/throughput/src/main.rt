@@ -3,11 +3,11 @@
 
 use anyhow::anyhow;
 use common::list::List;
-use console::fill;
 use std::env;
 use std::io::{BufWriter, Write};
 use stream::answers::Taken;
 use stream::intake::Intake;
+use survey::feeding::next_piece;
 use survey::printing::print_totals;
 use survey::setup::{ENTRIES, SPACE, all_formats, both_framings, entry_table};
 
@@ -18,14 +18,11 @@ each piece, and prints the totals of accepted bytes, records, bytes passed over 
 // How long the pieces may be, from the arguments; none where they only ask for the usage.
 fn piece_size(rt: &HostRuntime) -> anyhow::Result<Option<usize>> {
     let mut size = SPACE;
-    for (i, arg) in env::args(rt)?.enumerate() {
-        if i == 0 {
-            continue;
+    for arg in env::args(rt)?.skip(1) {
+        match arg.as_str() {
+            "--help" | "-h" => return Ok(None),
+            number => size = number.parse()?,
         }
-        if arg.as_str() == "--help" || arg.as_str() == "-h" {
-            return Ok(None);
-        }
-        size = arg.as_str().parse::<usize>()?;
     }
     Ok(Some(size.max(1)))
 }
@@ -35,12 +32,11 @@ fn drain(rt: &HostRuntime, intake: &mut Intake, size: usize) -> anyhow::Result<(
     let framings = both_framings();
     let formats = all_formats();
     let mut table = entry_table(rt, ENTRIES)?;
-    let mut piece = vec![in rt.alloc(); 0u8; SPACE]?;
+    let mut piece = vec![in rt.alloc(); 0u8; size.min(SPACE)]?;
     let mut space = vec![in rt.alloc(); 0u8; SPACE]?;
+    // No input reaches the bound: a loop must be seen to end.
     for _ in 0..u64::MAX {
-        let free = intake.free().min(size);
-        let n = fill(rt, &mut piece[0..free])?;
-        let last = n < free;
+        let (n, last) = next_piece(rt, intake, &mut piece)?;
         let mut register = List::new(&mut table);
         match intake.feed(
             &framings,

@@ -18,6 +18,7 @@ fault of each. Damaged blocks are refused, with the number of the first wrong bl
 // One byte more than the blocks of a register have, so that longer input is refused.
 const SPACE: usize = BLOCK * MOST_BLOCKS + 1;
 
+// Told with its place in the middle, which the text of a refusal has not.
 fn refuse(rt: &HostRuntime, refusal: Refusal) -> anyhow::Result<()> {
     let number = refusal.number;
     let place = refusal.place;
@@ -35,7 +36,7 @@ fn run(rt: &HostRuntime) -> anyhow::Result<()> {
     let mut table = entry_table(rt, ENTRIES)?;
     let mut register = List::new(&mut table);
     if let Err(fault) = unpack(&space[0..n], &mut register) {
-        return refuse(rt, fault.refusal());
+        return refuse(rt, fault.into());
     }
     let mut out = BufWriter::new(rt.alloc(), rt.stdout())?;
     print_entries(&mut out, register.as_slice())?;

@@ -1,16 +1,7 @@
 -- The clock of a velocity record: a Gregorian date and a time of day. Assumes nothing.
-use Rattle.std.specs.Prelude.{ℕ, ◌+◌, ◌%◌, Bool, cond, not, ◌&&◌, ◌||◌, List, Some, None, Option, ◌==◌, nat_lt, slice_index}
+use Rattle.std.specs.Prelude.{ℕ, ◌+◌, cond, ◌||◌, List, Some, None, Option, ◌==◌, nat_lt, slice_index}
+use Rattle.calendar.specs.Calendar.{days}
 use Rattle.velocity.specs.Layout.{word}
-
--- whether a year has a 29 February
-abbrev pub leap : ℕ → Bool
-leap year = year % 4 == 0 && (not (year % 100 == 0) || year % 400 == 0)
-
--- the days of a month, counted from 0, of a year
-abbrev pub days : ℕ → ℕ → ℕ
-days year month =
-    cond (month == 1) (cond (leap year) 29 28)
-    (cond (month == 3 || (month == 5 || (month == 8 || month == 10))) 30 31)
 
 -- the place of the first wrong field of a clock that begins at a place:
 -- year since 1900, month from 0, day, hour, minute, second, and hundred microseconds

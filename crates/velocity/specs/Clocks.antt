@@ -2,8 +2,9 @@
 use Rattle.std.specs.Prelude.{◌≡◌, ℕ, ◌+◌, ◌≤◌, ◌||◌, List, Some, None, Option, ◌==◌, nat_lt, slice_index, refl}
 use Rattle.std.proofs.Common.{arith}
 use Rattle.std.proofs.lemmas.Bool.{cond_both}
+use Rattle.calendar.specs.Calendar.{days}
 use Rattle.velocity.specs.Layout.{word}
-use Rattle.velocity.specs.Clock.{days, clock_fault, clock_at}
+use Rattle.velocity.specs.Clock.{clock_fault, clock_at}
 
 -- the ways of a clock: a fault at one of its fields, or none
 module _ (at y mo d h mi se hu : ℕ) (P : Option ℕ → Type 0) (wrong : (place : ℕ) → at ≤ place → place ≤ at + 6 → P (Some place)) (right : P None) where

@@ -1,7 +1,8 @@
 -- The laws of DF3 records. Assumes nothing.
-use Rattle.std.specs.Prelude.{◌≡◌, ℕ, ◌+◌, ◌-◌, ◌*◌, ◌<◌, ◌≤◌, true, false, ◌&&◌, List, [], ◌∷◌, ◌++◌, length, take, drop, Some, None, Option, ◌==◌, ◌≢◌, nat_le, nat_lt, slice_index, refl}
-use Rattle.std.proofs.Common.{ap, subst, ◌∙◌, arith, length-take}
+use Rattle.std.specs.Prelude.{◌≡◌, ℕ, ◌+◌, ◌-◌, ◌*◌, ◌<◌, ◌≤◌, true, false, ◌&&◌, List, [], ◌∷◌, ◌++◌, length, take, drop, Some, None, Option, Ok, ◌==◌, ◌≢◌, nat_le, nat_lt, slice_index, refl}
+use Rattle.std.proofs.Common.{sym, ap, subst, ◌∙◌, arith, length-take}
 use Rattle.std.proofs.lemmas.Bool.{cond_both, and_parts, leb-true, ltb-false}
+use Rattle.format.specs.Faults.{not_both}
 use Rattle.format.specs.Meaning.{Meaning, Laws, Accepted, unclaimed, faulty, accepted, data_place}
 use Rattle.velocity.specs.Layout.{data_size, Shape, shape, shapes, total, layout, field_part, field_parts, field_at}
 use Rattle.velocity.specs.Df3.{df3_fields, df3_offset, beams, cells, velocities, amplitudes, correlations, correlation_position, arrays_end, df3_parts, df3_claims, first_above, high_correlation, df3_correlated, df3_arrayed, df3_clocked, df3_judged, df3_meaning}
@@ -65,8 +66,8 @@ module _ (kind : ℕ) (s : List ℕ) where
       (λ _. bad 12 10 (omega arith) (λ z. omega arith) head (omega arith))))
       (λ _. other)
 
-  pub df3_accepted : (df3_meaning kind s).judgement.number ≡ 0 → (df3_meaning kind s ≡ accepted (df3_parts s)) × Good s
-  df3_accepted = ways (λ m. m.judgement.number ≡ 0 → (m ≡ accepted (df3_parts s)) × Good s) (λ g _. (refl, g)) (λ _ _ _ no _ _ e. absurd (no e)) (λ e. absurd (omega arith))
+  pub df3_accepted : (df3_meaning kind s).judgement ≡ Ok tt → (df3_meaning kind s ≡ accepted (df3_parts s)) × Good s
+  df3_accepted = ways (λ m. m.judgement ≡ Ok tt → (m ≡ accepted (df3_parts s)) × Good s) (λ g _. (refl, g)) (λ _ _ _ _ _ _ e. not_both (sym e)) (λ e. not_both (sym e))
 
 -- the spare bytes up to an offset, arrays of v, a and n items, and the tail of some data
 abbrev others : ℕ → ℕ → ℕ → ℕ → ℕ → List Shape

@@ -1,8 +1,9 @@
 -- The laws of DF7 records. Assumes nothing.
-use Rattle.std.specs.Prelude.{◌≡◌, ℕ, ◌+◌, ◌-◌, ◌*◌, ◌<◌, ◌≤◌, false, ◌&&◌, ◌||◌, List, [], ◌∷◌, ◌++◌, length, ◌==◌, ◌≢◌, nat_le, nat_lt, slice_index, refl}
-use Rattle.std.proofs.Math.Path.{ap, subst}
+use Rattle.std.specs.Prelude.{◌≡◌, ℕ, ◌+◌, ◌-◌, ◌*◌, ◌<◌, ◌≤◌, false, ◌&&◌, ◌||◌, List, [], ◌∷◌, ◌++◌, length, Ok, ◌==◌, ◌≢◌, nat_le, nat_lt, slice_index, refl}
+use Rattle.std.proofs.Math.Path.{sym, ap, subst}
 use Rattle.std.proofs.Common.{arith}
 use Rattle.std.proofs.lemmas.Bool.{cond_both, and_parts, leb-true, ltb-false}
+use Rattle.format.specs.Faults.{not_both}
 use Rattle.format.specs.Meaning.{Meaning, Laws, Accepted, unclaimed, faulty, accepted, data_place}
 use Rattle.velocity.specs.Layout.{data_size, Shape, shape, shapes, layout, field_part, field_parts, field_at}
 use Rattle.velocity.specs.Df7.{df7_fields, df7_offset, df7_parts, df7_claims, df7_clocked, df7_judged, df7_meaning}
@@ -39,8 +40,8 @@ module _ (kind : ℕ) (s : List ℕ) where
       (λ _. bad 12 11 (omega arith) (λ z. omega arith) head (omega arith))))
       (λ _. other)
 
-  pub df7_accepted : (df7_meaning kind s).judgement.number ≡ 0 → (df7_meaning kind s ≡ accepted (df7_parts s)) × Good s
-  df7_accepted = ways (λ m. m.judgement.number ≡ 0 → (m ≡ accepted (df7_parts s)) × Good s) (λ g _. (refl, g)) (λ _ _ _ no _ _ e. absurd (no e)) (λ e. absurd (omega arith))
+  pub df7_accepted : (df7_meaning kind s).judgement ≡ Ok tt → (df7_meaning kind s ≡ accepted (df7_parts s)) × Good s
+  df7_accepted = ways (λ m. m.judgement ≡ Ok tt → (m ≡ accepted (df7_parts s)) × Good s) (λ g _. (refl, g)) (λ _ _ _ _ _ _ e. not_both (sym e)) (λ e. not_both (sym e))
 
   -- the fixed fields, the spare bytes and the tail fill the data
   all_shapes : List Shape

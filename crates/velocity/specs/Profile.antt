@@ -1,5 +1,6 @@
 -- What is taken from an accepted DF3 record: cell centres, velocities and correlations. Assumes nothing.
-use Rattle.std.specs.Prelude.{◌≡◌, ℕ, ◌+◌, ◌-◌, ◌*◌, ◌<◌, ◌≤◌, Bool, cond, ◌&&◌, List, length, None, Ok, Err, Result, ◌==◌, nat_le, nat_lt, slice_index}
+use Rattle.std.specs.Prelude.{ℕ, ◌+◌, ◌-◌, ◌*◌, Bool, cond, ◌&&◌, List, is_ok, Ok, Err, Result, nat_le, nat_lt, slice_index}
+use Rattle.std.specs.Result.{result_map_both}
 use Rattle.std.specs.Int.{w8, w16}
 use Rattle.std.proofs.Common.{to_z}
 use Rattle.common.specs.declared.refusal.Refusal.{Refusal}
@@ -7,8 +8,8 @@ use Rattle.format.specs.Meaning.{data_place}
 use Rattle.velocity.specs.declared.profile.ProfileFault.{ProfileFault}
 use Rattle.velocity.specs.declared.profile.ProfileFault.TheVariants.{NotDf3, NoCell}
 use Rattle.velocity.specs.declared.profile.Velocity.{Velocity}
-use Rattle.velocity.specs.Layout.{word, data_size}
-use Rattle.velocity.specs.Df3.{df3_meaning, df3_offset, beams, cells, included, velocities, correlations, correlation_position, arrays_end, high_correlation}
+use Rattle.velocity.specs.Layout.{word}
+use Rattle.velocity.specs.Df3.{df3_meaning, df3_offset, beams, cells, velocities, correlations, correlation_position}
 
 -- each refusal's number; the layer is 2, and no place is named
 abbrev pub told : ProfileFault → Refusal
@@ -16,7 +17,7 @@ told NotDf3 = record { number = 23; layer = 2; place = 0 }
 told NoCell = record { number = 24; layer = 2; place = 0 }
 
 abbrev pub is_accepted : ℕ → List ℕ → Bool
-is_accepted kind s = (df3_meaning kind s).judgement.number == 0
+is_accepted kind s = is_ok (df3_meaning kind s).judgement
 
 -- blanking in millimetres; the record has it in centimetres
 abbrev pub blanking : List ℕ → ℕ
@@ -39,15 +40,13 @@ exist s beam cell = (nat_le 1 beam && nat_le beam (beams s)) && (nat_le 1 cell &
 abbrev pub item_number : List ℕ → ℕ → ℕ → ℕ
 item_number s beam cell = (beam - 1) * cells s + (cell - 1)
 
+-- the number of the item of a beam and a cell in an array of so many items
+abbrev pub item_of : List ℕ → ℕ → ℕ → ℕ → Result ℕ ProfileFault
+item_of s items beam cell = cond (nat_lt 0 items) (cond (exist s beam cell) (Ok (item_number s beam cell)) (Err NoCell)) (Err NotDf3)
+
 -- the answer for an item of an array of so many items
 abbrev pub of_array : {X : Type 0} → ℕ → List ℕ → ℕ → ℕ → ℕ → (ℕ → X) → Result X ProfileFault
-of_array kind s items beam cell value =
-    cond (is_accepted kind s && nat_lt 0 items) (cond (exist s beam cell) (Ok (value (item_number s beam cell))) (Err NoCell)) (Err NotDf3)
-
--- an item that was found is one of the array's, in a record whose arrays end inside the data and whose correlations are at most 100
-abbrev pub ItemWithin : List ℕ → ℕ → Result ℕ ProfileFault → Type 0
-ItemWithin s bit (Ok i) = (i < included bit s) × (86 ≤ length s) × (arrays_end s ≤ data_size s) × (high_correlation s ≡ None)
-ItemWithin s bit (Err e) = Unit {0}
+of_array kind s items beam cell value = cond (is_accepted kind s) (result_map_both value (λ e. e) (item_of s items beam cell)) (Err NotDf3)
 
 -- a velocity is its mantissa times ten to the scaling, in metres per second
 abbrev pub velocity_at : List ℕ → ℕ → Velocity

@@ -1,18 +1,17 @@
 // DF3 velocity records, kind 1, series 0x15, 0x16 and 0x18: fixed fields, spare bytes up to an offset, arrays, and a tail.
-ghost use Rattle.std.specs.Prelude.{◌≡◌, ◌+◌, ◌*◌, ◌^◌, ◌<◌, ◌≤◌, length};
+ghost use Rattle.std.specs.Prelude.{◌≡◌, ◌<◌, ◌≤◌, length, None, Err, nat_lt, position, MatchOption, MatchResult, IfOk};
 ghost use Rattle.format.specs.Meaning.{Leaves, accepted};
 ghost use Rattle.velocity.specs.Layout.{data_size};
-ghost use Rattle.velocity.specs.Df3.{df3_claims, df3_judged, df3_arrayed, df3_meaning, df3_parts, df3_offset, df3_fields, df3_spare, velocity_array, amplitude_array, correlation_array, df3_tail, cells, beams, included as included_items, amplitude_position, correlation_position, arrays_end, first_above, high_correlation};
+ghost use Rattle.velocity.specs.Df3.{df3_fields, df3_claims, df3_judged, df3_arrayed, df3_meaning, df3_parts, df3_offset, cells, beams, included, velocities, amplitudes, correlations, amplitude_position, correlation_position, arrays_end, high_correlation};
 ghost use Rattle.velocity.specs.Df3Laws.{df3_lawful};
 
-use crate::clock::clock_at;
-use crate::layout::{Field, field_part, judgement, list_layout, plain_field, word_at};
+use crate::clock::judge_clock;
+use crate::layout::{
+    Field, HEADER, KIND, bytes_between, field_at, field_part, list_layout, plain_field, word_at,
+};
 use common::list::List;
-use format::format::{Format, Judgement, Part, PartsFault};
-
-const KIND: u8 = 1;
-
-const HEADER: usize = 10;
+use format::defect::Defect;
+use format::format::{Format, Part, PartsFault, RecordFault};
 
 const OFFSET_LEAST: usize = 76;
 
@@ -22,265 +21,56 @@ const CONFIGURATION: usize = 12;
 
 const LAYOUT: usize = 40;
 
-const NOMINAL: usize = 46;
+pub(crate) const NOMINAL: usize = 46;
 
 const MOST_CORRELATION: u8 = 100;
 
 // The fields before the spare bytes.
 const FIELDS: [Field; 36] = [
-    // version
-    Field {
-        position: 0,
-        width: 1,
-        count: 1,
-        signed: false,
-    },
-    // offset
-    Field {
-        position: 1,
-        width: 1,
-        count: 1,
-        signed: false,
-    },
-    // configuration
-    Field {
-        position: 2,
-        width: 2,
-        count: 1,
-        signed: false,
-    },
-    // serial
-    Field {
-        position: 4,
-        width: 4,
-        count: 1,
-        signed: false,
-    },
-    // year
-    Field {
-        position: 8,
-        width: 1,
-        count: 1,
-        signed: false,
-    },
-    // month
-    Field {
-        position: 9,
-        width: 1,
-        count: 1,
-        signed: false,
-    },
-    // day
-    Field {
-        position: 10,
-        width: 1,
-        count: 1,
-        signed: false,
-    },
-    // hour
-    Field {
-        position: 11,
-        width: 1,
-        count: 1,
-        signed: false,
-    },
-    // minute
-    Field {
-        position: 12,
-        width: 1,
-        count: 1,
-        signed: false,
-    },
-    // second
-    Field {
-        position: 13,
-        width: 1,
-        count: 1,
-        signed: false,
-    },
-    // hundred microseconds
-    Field {
-        position: 14,
-        width: 2,
-        count: 1,
-        signed: false,
-    },
-    // sound speed
-    Field {
-        position: 16,
-        width: 2,
-        count: 1,
-        signed: false,
-    },
-    // temperature
-    Field {
-        position: 18,
-        width: 2,
-        count: 1,
-        signed: true,
-    },
-    // pressure
-    Field {
-        position: 20,
-        width: 4,
-        count: 1,
-        signed: false,
-    },
-    // heading
-    Field {
-        position: 24,
-        width: 2,
-        count: 1,
-        signed: false,
-    },
-    // pitch
-    Field {
-        position: 26,
-        width: 2,
-        count: 1,
-        signed: true,
-    },
-    // roll
-    Field {
-        position: 28,
-        width: 2,
-        count: 1,
-        signed: true,
-    },
-    // layout
-    Field {
-        position: 30,
-        width: 2,
-        count: 1,
-        signed: false,
-    },
-    // cell size
-    Field {
-        position: 32,
-        width: 2,
-        count: 1,
-        signed: false,
-    },
-    // blanking
-    Field {
-        position: 34,
-        width: 2,
-        count: 1,
-        signed: false,
-    },
-    // nominal correlation
-    Field {
-        position: 36,
-        width: 1,
-        count: 1,
-        signed: false,
-    },
-    // sensor temperature
-    Field {
-        position: 37,
-        width: 1,
-        count: 1,
-        signed: false,
-    },
-    // battery
-    Field {
-        position: 38,
-        width: 2,
-        count: 1,
-        signed: false,
-    },
-    // magnetometer
-    Field {
-        position: 40,
-        width: 2,
-        count: 3,
-        signed: true,
-    },
-    // accelerometer
-    Field {
-        position: 46,
-        width: 2,
-        count: 3,
-        signed: true,
-    },
-    // ambiguity velocity
-    Field {
-        position: 52,
-        width: 2,
-        count: 1,
-        signed: false,
-    },
-    // data set
-    Field {
-        position: 54,
-        width: 2,
-        count: 1,
-        signed: false,
-    },
-    // energy
-    Field {
-        position: 56,
-        width: 2,
-        count: 1,
-        signed: false,
-    },
-    // velocity scaling
-    Field {
-        position: 58,
-        width: 1,
-        count: 1,
-        signed: true,
-    },
-    // power level
-    Field {
-        position: 59,
-        width: 1,
-        count: 1,
-        signed: true,
-    },
-    // magnetometer temperature
-    Field {
-        position: 60,
-        width: 2,
-        count: 1,
-        signed: true,
-    },
-    // clock temperature
-    Field {
-        position: 62,
-        width: 2,
-        count: 1,
-        signed: true,
-    },
-    // error
-    Field {
-        position: 64,
-        width: 2,
-        count: 1,
-        signed: false,
-    },
-    // extended status
-    Field {
-        position: 66,
-        width: 2,
-        count: 1,
-        signed: false,
-    },
-    // status
-    Field {
-        position: 68,
-        width: 4,
-        count: 1,
-        signed: false,
-    },
-    // ensemble counter
-    Field {
-        position: 72,
-        width: 4,
-        count: 1,
-        signed: false,
-    },
+    field_at!(0, 1, 1, false), // version
+    field_at!(1, 1, 1, false), // offset
+    field_at!(2, 2, 1, false), // configuration
+    field_at!(4, 4, 1, false), // serial
+    field_at!(8, 1, 1, false), // year
+    field_at!(9, 1, 1, false), // month
+    field_at!(10, 1, 1, false), // day
+    field_at!(11, 1, 1, false), // hour
+    field_at!(12, 1, 1, false), // minute
+    field_at!(13, 1, 1, false), // second
+    field_at!(14, 2, 1, false), // hundred microseconds
+    field_at!(16, 2, 1, false), // sound speed
+    field_at!(18, 2, 1, true), // temperature
+    field_at!(20, 4, 1, false), // pressure
+    field_at!(24, 2, 1, false), // heading
+    field_at!(26, 2, 1, true), // pitch
+    field_at!(28, 2, 1, true), // roll
+    field_at!(30, 2, 1, false), // layout
+    field_at!(32, 2, 1, false), // cell size
+    field_at!(34, 2, 1, false), // blanking
+    field_at!(36, 1, 1, false), // nominal correlation
+    field_at!(37, 1, 1, false), // sensor temperature
+    field_at!(38, 2, 1, false), // battery
+    field_at!(40, 2, 3, true), // magnetometer
+    field_at!(46, 2, 3, true), // accelerometer
+    field_at!(52, 2, 1, false), // ambiguity velocity
+    field_at!(54, 2, 1, false), // data set
+    field_at!(56, 2, 1, false), // energy
+    field_at!(58, 1, 1, true), // velocity scaling
+    field_at!(59, 1, 1, true), // power level
+    field_at!(60, 2, 1, true), // magnetometer temperature
+    field_at!(62, 2, 1, true), // clock temperature
+    field_at!(64, 2, 1, false), // error
+    field_at!(66, 2, 1, false), // extended status
+    field_at!(68, 4, 1, false), // status
+    field_at!(72, 4, 1, false), // ensemble counter
 ];
+
+// The table, which is the definition's.
+fn fixed_fields() -> [Field; 36]
+    ensures { result ≡ df3_fields }
+{
+    FIELDS
+}
 
 // The format of DF3 records.
 #[derive(Clone, Copy, Debug)]
@@ -294,192 +84,206 @@ fn is_df3(kind: u8, bytes: &[u8]) -> bool
         && (bytes[2] == 0x15 || bytes[2] == 0x16 || bytes[2] == 0x18)
 }
 
-pub(crate) fn cells_of(bytes: &[u8]) -> usize
-    requires { 86 ≤ length bytes.now }
-    ensures value { result ≡ cells bytes.now }
-    ensures few { result ≤ 1023 }
+// The index of the first number above 100.
+fn first_above(numbers: &[u8]) -> Option<usize>
+    ensures { result ≡ position (λ x. nat_lt 100 x) numbers.now }
 {
-    (word_at(bytes, LAYOUT) % 1024) as usize
+    numbers.iter().position(|number| *number > MOST_CORRELATION)
 }
 
-pub(crate) fn beams_of(bytes: &[u8]) -> usize
-    requires { 86 ≤ length bytes.now }
-    ensures value { result ≡ beams bytes.now }
-    ensures few { result ≤ 15 }
-{
-    (word_at(bytes, LAYOUT) / 4096 % 16) as usize
+// A record that has all the fixed fields.
+#[derive(Clone, Copy)]
+pub(crate) struct Fixed<'a> {
+    pub(crate) bytes: &'a [u8],
+    ghost long: { 86 ≤ length bytes.now },
 }
 
-// How many items an array has that a bit of the configuration includes.
-pub(crate) fn included(bit: u32, bytes: &[u8]) -> usize
-    requires { (bit < 16) × (86 ≤ length bytes.now) }
-    ensures value { result ≡ included_items bit bytes.now }
-    ensures few { result ≤ 15345 }
-{
-    if (word_at(bytes, CONFIGURATION) >> bit) % 2 == 1 {
-        beams_of(bytes) * cells_of(bytes)
-    } else {
-        0
+impl<'a> Fixed<'a> {
+    fn new(bytes: &'a [u8]) -> Option<Fixed<'a>>
+        ensures { MatchOption result (length bytes.now < 86) (λ f. f.bytes.now ≡ bytes.now) }
+    {
+        if bytes.len() < HEADER + OFFSET_LEAST {
+            return None;
+        }
+        Some(Fixed { bytes })
     }
-}
 
-fn amplitude_position(bytes: &[u8]) -> usize
-    requires { 86 ≤ length bytes.now }
-    ensures value { result ≡ amplitude_position bytes.now }
-    ensures few { result ≤ 30945 }
-{
-    bytes[11] as usize + 2 * included(5, bytes)
-}
+    fn data_size(&self) -> usize
+        ensures { result ≡ data_size self.now.bytes.now }
+    {
+        self.bytes.len() - HEADER
+    }
 
-pub(crate) fn correlation_position(bytes: &[u8]) -> usize
-    requires { 86 ≤ length bytes.now }
-    ensures value { result ≡ correlation_position bytes.now }
-    ensures few { result ≤ 46290 }
-{
-    amplitude_position(bytes) + included(6, bytes)
-}
+    pub(crate) fn offset(&self) -> usize
+        ensures value { result ≡ df3_offset self.now.bytes.now }
+        ensures few { result ≤ 255 }
+    {
+        usize::from(self.bytes[11])
+    }
 
-fn arrays_end(bytes: &[u8]) -> usize
-    requires { 86 ≤ length bytes.now }
-    ensures value { result ≡ arrays_end bytes.now }
-    ensures few { result ≤ 61635 }
-{
-    correlation_position(bytes) + included(7, bytes)
-}
+    pub(crate) fn cells(&self) -> usize
+        ensures value { result ≡ cells self.now.bytes.now }
+        ensures few { result ≤ 1023 }
+    {
+        usize::from(word_at(self.bytes, LAYOUT) % 1024)
+    }
 
-// The place of the first number above 100, of numbers that begin at a place.
-fn first_above(place: usize, numbers: &[u8]) -> Option<usize>
-    requires { place + length numbers.now < 2 ^ 64 }
-    ensures { result ≡ first_above place numbers.now }
-{
-    for (i, number) in numbers.iter().enumerate() {
-        if *number > MOST_CORRELATION {
-            return Some(place + i);
+    pub(crate) fn beams(&self) -> usize
+        ensures value { result ≡ beams self.now.bytes.now }
+        ensures few { result ≤ 15 }
+    {
+        usize::from(word_at(self.bytes, LAYOUT) / 4096 % 16)
+    }
+
+    // How many items an array has that one of the configuration's 16 bits includes. The bound is said again of each of the three arrays, which is
+    // plainer than a type of counts for one bound.
+    #[tactic(auto, using(crate::proofs::Items::few_items))]
+    fn included(&self, bit: u32) -> usize
+        requires { bit < 16 }
+        ensures value { result ≡ included bit self.now.bytes.now }
+        ensures few { result ≤ 15345 }
+    {
+        if (word_at(self.bytes, CONFIGURATION) >> bit) % 2 == 1 {
+            self.beams() * self.cells()
+        } else {
+            0
         }
     }
-    None
-}
 
-fn high_correlation(bytes: &[u8]) -> Option<usize>
-    requires { (86 ≤ length bytes.now) × (arrays_end bytes.now ≤ data_size bytes.now) }
-    ensures { result ≡ high_correlation bytes.now }
-{
-    if bytes[NOMINAL] > MOST_CORRELATION {
-        return Some(NOMINAL);
+    pub(crate) fn velocities(&self) -> usize
+        ensures value { result ≡ velocities self.now.bytes.now }
+        ensures few { result ≤ 15345 }
+    {
+        self.included(5)
     }
-    let place = correlation_position(bytes) + HEADER;
-    let count = included(7, bytes);
-    first_above(place, &bytes[place..place + count])
-}
 
-fn judge_arrays(bytes: &[u8]) -> Judgement
-    requires { 86 ≤ length bytes.now }
-    ensures { result ≡ (df3_arrayed bytes.now).judgement }
-{
-    let beams = beams_of(bytes);
-    if beams < 1 || beams > 5 || cells_of(bytes) < 1 {
-        return judgement(15, LAYOUT);
+    fn amplitudes(&self) -> usize
+        ensures value { result ≡ amplitudes self.now.bytes.now }
+        ensures few { result ≤ 15345 }
+    {
+        self.included(6)
     }
-    if arrays_end(bytes) > bytes.len() - HEADER {
-        return judgement(16, CONFIGURATION);
+
+    pub(crate) fn correlations(&self) -> usize
+        ensures value { result ≡ correlations self.now.bytes.now }
+        ensures few { result ≤ 15345 }
+    {
+        self.included(7)
     }
-    match high_correlation(bytes) {
-        Some(place) => judgement(17, place),
-        None => judgement(0, 0),
+
+    // Where the arrays begin behind the velocities, and where the last of them ends.
+    fn amplitude_position(&self) -> usize
+        ensures value { result ≡ amplitude_position self.now.bytes.now }
+        ensures few { result ≤ 30945 }
+    {
+        self.offset() + 2 * self.velocities()
+    }
+
+    pub(crate) fn correlation_position(&self) -> usize
+        ensures value { result ≡ correlation_position self.now.bytes.now }
+        ensures few { result ≤ 46290 }
+    {
+        self.amplitude_position() + self.amplitudes()
+    }
+
+    fn arrays_end(&self) -> usize
+        ensures value { result ≡ arrays_end self.now.bytes.now }
+        ensures few { result ≤ 61635 }
+    {
+        self.correlation_position() + self.correlations()
+    }
+
+    // The place of the first correlation above 100. Its one caller has just tested that the arrays end inside the data, so no type says it.
+    #[tactic(auto, using(crate::proofs::Profiles::above))]
+    fn high_correlation(&self) -> Option<usize>
+        requires { arrays_end self.now.bytes.now ≤ data_size self.now.bytes.now }
+        ensures { result ≡ high_correlation self.now.bytes.now }
+    {
+        if self.bytes[NOMINAL] > MOST_CORRELATION {
+            return Some(NOMINAL);
+        }
+        let place = self.correlation_position() + HEADER;
+        let i = first_above(&self.bytes[place..place + self.correlations()])?;
+        Some(place + i)
+    }
+
+    // Judges what is behind a right clock.
+    fn judge_arrays(&self) -> Result<(), RecordFault>
+        ensures says { MatchResult result (λ _. df3_arrayed self.now.bytes.now ≡ accepted (df3_parts self.now.bytes.now)) (λ e. (df3_arrayed self.now.bytes.now).judgement ≡ Err e) }
+        ensures inside { IfOk result (λ _. arrays_end self.now.bytes.now ≤ data_size self.now.bytes.now) }
+        ensures low { IfOk result (λ _. high_correlation self.now.bytes.now ≡ None) }
+    {
+        let beams = self.beams();
+        if beams < 1 || beams > 5 || self.cells() < 1 {
+            return Err(Defect::BeamsOrCells.at(LAYOUT));
+        }
+        if self.arrays_end() > self.data_size() {
+            return Err(Defect::ArraysOutside.at(CONFIGURATION));
+        }
+        match self.high_correlation() {
+            Some(place) => Err(Defect::HighCorrelation.at(place)),
+            None => Ok(()),
+        }
+    }
+
+    // The same of a record that is claimed and has the fixed fields.
+    fn accepted(&self) -> Result<Accepted<'a>, RecordFault>
+        ensures { MatchResult result (λ r. (r.fixed.bytes.now ≡ self.now.bytes.now) × (df3_judged self.now.bytes.now ≡ accepted (df3_parts self.now.bytes.now))) (λ e. (df3_judged self.now.bytes.now).judgement ≡ Err e) }
+    {
+        if self.bytes[10] != 3 {
+            return Err(Defect::OtherVersion.at(10));
+        }
+        let offset = self.offset();
+        if offset < OFFSET_LEAST || offset > self.data_size() {
+            return Err(Defect::OffsetOutside.at(11));
+        }
+        judge_clock(CLOCK, self.bytes)?;
+        self.judge_arrays()?;
+        Ok(Accepted { fixed: *self })
     }
 }
 
-fn judge_claimed(bytes: &[u8]) -> Judgement
-    ensures { result ≡ (df3_judged bytes.now).judgement }
-{
-    if bytes.len() < HEADER + OFFSET_LEAST {
-        return judgement(11, 4);
+// An accepted record: its arrays lie inside the data, and no correlation is above 100.
+#[derive(Clone, Copy)]
+pub(crate) struct Accepted<'a> {
+    pub(crate) fixed: Fixed<'a>,
+    ghost least: { 76 ≤ df3_offset fixed.bytes.now },
+    ghost most: { arrays_end fixed.bytes.now ≤ data_size fixed.bytes.now },
+    ghost low: { high_correlation fixed.bytes.now ≡ None },
+}
+
+impl<'a> Accepted<'a> {
+    // A record as an accepted one, or what is wrong with it.
+    pub(crate) fn read(kind: u8, bytes: &'a [u8]) -> Result<Accepted<'a>, RecordFault>
+        ensures { MatchResult result (λ r. (r.fixed.bytes.now ≡ bytes.now) × (df3_meaning kind bytes.now ≡ accepted (df3_parts bytes.now))) (λ e. (df3_meaning kind bytes.now).judgement ≡ Err e) }
+    {
+        if !is_df3(kind, bytes) {
+            return Err(Defect::Unclaimed.at(0));
+        }
+        Fixed::new(bytes).ok_or(Defect::FewData.at(4))?.accepted()
     }
-    if bytes[10] != 3 {
-        return judgement(12, 10);
+
+    fn list(&self, out: &mut List<'_, Part>) -> Result<(), PartsFault>
+        ensures { Leaves (accepted (df3_parts self.now.fixed.bytes.now)) out.old out.new result }
+    {
+        let fixed = self.fixed;
+        let velocities = Field {
+            position: fixed.offset(),
+            width: 2,
+            count: fixed.velocities(),
+            signed: true,
+        };
+        let amplitudes = plain_field(fixed.amplitude_position(), fixed.amplitudes());
+        let correlations = plain_field(fixed.correlation_position(), fixed.correlations());
+        let others = [
+            field_part(37, bytes_between(OFFSET_LEAST, fixed.offset())),
+            field_part(38, velocities),
+            field_part(39, amplitudes),
+            field_part(40, correlations),
+            field_part(41, bytes_between(fixed.arrays_end(), fixed.data_size())),
+        ];
+        list_layout(&fixed_fields(), &others, out)
     }
-    let offset = bytes[11] as usize;
-    if offset < OFFSET_LEAST || offset > bytes.len() - HEADER {
-        return judgement(13, 11);
-    }
-    match clock_at(CLOCK, bytes) {
-        Some(place) => judgement(14, place),
-        None => judge_arrays(bytes),
-    }
-}
-
-pub(crate) fn judge_df3(kind: u8, bytes: &[u8]) -> Judgement
-    ensures { result ≡ (df3_meaning kind bytes.now).judgement }
-{
-    if !is_df3(kind, bytes) {
-        return judgement(10, 0);
-    }
-    judge_claimed(bytes)
-}
-
-// The table.
-fn fixed_fields() -> [Field; 36]
-    ensures { result ≡ df3_fields }
-{
-    FIELDS
-}
-
-fn spare(bytes: &[u8]) -> Field
-    requires { (86 ≤ length bytes.now) × (76 ≤ df3_offset bytes.now) }
-    ensures { result ≡ df3_spare bytes.now }
-{
-    plain_field(OFFSET_LEAST, bytes[11] as usize - OFFSET_LEAST)
-}
-
-fn velocity(bytes: &[u8]) -> Field
-    requires { 86 ≤ length bytes.now }
-    ensures { result ≡ velocity_array bytes.now }
-{
-    Field {
-        position: bytes[11] as usize,
-        width: 2,
-        count: included(5, bytes),
-        signed: true,
-    }
-}
-
-fn amplitude(bytes: &[u8]) -> Field
-    requires { 86 ≤ length bytes.now }
-    ensures { result ≡ amplitude_array bytes.now }
-{
-    plain_field(amplitude_position(bytes), included(6, bytes))
-}
-
-fn correlation(bytes: &[u8]) -> Field
-    requires { 86 ≤ length bytes.now }
-    ensures { result ≡ correlation_array bytes.now }
-{
-    plain_field(correlation_position(bytes), included(7, bytes))
-}
-
-fn tail(bytes: &[u8]) -> Field
-    requires { (86 ≤ length bytes.now) × (arrays_end bytes.now ≤ data_size bytes.now) }
-    ensures { result ≡ df3_tail bytes.now }
-{
-    let end = arrays_end(bytes);
-    plain_field(end, bytes.len() - HEADER - end)
-}
-
-// The parts of a record whose arrays end inside the data.
-fn list_df3(bytes: &[u8], out: &mut List<'_, Part>) -> Result<(), PartsFault>
-    requires { (86 ≤ length bytes.now) × ((76 ≤ df3_offset bytes.now) × (arrays_end bytes.now ≤ data_size bytes.now)) }
-    ensures leaves { Leaves (accepted (df3_parts bytes.now)) out.old out.new result }
-    ensures lends { out.new.table.ghost_name ≡ out.old.table.ghost_name }
-{
-    let fields = fixed_fields();
-    let others = [
-        field_part(37, spare(bytes)),
-        field_part(38, velocity(bytes)),
-        field_part(39, amplitude(bytes)),
-        field_part(40, correlation(bytes)),
-        field_part(41, tail(bytes)),
-    ];
-    list_layout(&fields, &others, out)
 }
 
 impl Format for Df3 {
@@ -491,18 +295,12 @@ impl Format for Df3 {
         is_df3(kind, bytes)
     }
 
-    fn judge(&self, kind: u8, bytes: &[u8]) -> Judgement {
-        judge_df3(kind, bytes)
+    fn judge(&self, kind: u8, bytes: &[u8]) -> Result<(), RecordFault> {
+        Accepted::read(kind, bytes)?;
+        Ok(())
     }
 
     fn list(&self, kind: u8, bytes: &[u8], out: &mut List<'_, Part>) -> Result<(), PartsFault> {
-        let verdict = judge_df3(kind, bytes);
-        if verdict.number != 0 {
-            return Err(PartsFault::Judged {
-                number: verdict.number,
-                place: verdict.place,
-            });
-        }
-        list_df3(bytes, out)
+        Accepted::read(kind, bytes)?.list(out)
     }
 }

@@ -1,14 +1,17 @@
 // Fields at fixed positions, listed as parts in front of the parts whose sizes the record tells.
-ghost use Rattle.std.specs.Prelude.{◌≡◌, ◌+◌, ◌^◌, ◌<◌, ◌≤◌, true, false, [], ◌∷◌, ◌++◌, length};
+ghost use Rattle.std.specs.Prelude.{◌≡◌, ◌+◌, ◌-◌, ◌^◌, ◌<◌, ◌≤◌, true, false, [], ◌∷◌, ◌++◌, length};
 ghost use Rattle.common.specs.Lists.{items, room};
-ghost use Rattle.format.specs.Meaning.{Leaves, accepted, judged};
-ghost use Rattle.format.specs.Added.{Added};
+ghost use Rattle.format.specs.Meaning.{Leaves, accepted};
+ghost use Rattle.common.specs.Added.{Added};
 ghost use Rattle.velocity.specs.Layout.{field_at, near, field_part, field_parts, word};
 
 use common::list::List;
-use format::format::{Judgement, Part, PartsFault};
+use format::format::{Part, PartsFault};
 
-const HEADER: usize = 10;
+// The kind of a velocity record, and how many bytes are in front of its data.
+pub(crate) const KIND: u8 = 1;
+
+pub(crate) const HEADER: usize = 10;
 
 // A field: items of `width` bytes from a position on, counted from the first byte of the data.
 #[derive(Clone, Copy, Debug)]
@@ -19,19 +22,26 @@ pub(crate) struct Field {
     pub signed: bool,
 }
 
+// A line of a table of fields: position, width, count, and whether the items are signed.
+macro_rules! field_at {
+    ($position:literal, $width:literal, $count:literal, $signed:literal) => {
+        Field {
+            position: $position,
+            width: $width,
+            count: $count,
+            signed: $signed,
+        }
+    };
+}
+
+pub(crate) use field_at;
+
 // The little-endian word at a place.
 pub(crate) fn word_at(bytes: &[u8], place: usize) -> u16
     requires { place + 1 < length bytes.now }
     ensures { result ≡ word bytes.now place }
 {
     u16::from_le_bytes([bytes[place], bytes[place + 1]])
-}
-
-// A verdict with a place.
-pub(crate) fn judgement(number: u16, place: usize) -> Judgement
-    ensures { result ≡ judged number place }
-{
-    Judgement { number, place }
 }
 
 // Some unsigned bytes.
@@ -44,6 +54,14 @@ pub(crate) fn plain_field(position: usize, count: usize) -> Field
         count,
         signed: false,
     }
+}
+
+// The bytes from a position up to another.
+pub(crate) fn bytes_between(start: usize, end: usize) -> Field
+    requires { start ≤ end }
+    ensures { result ≡ field_at start 1 (end - start) false }
+{
+    plain_field(start, end - start)
 }
 
 // A field as a part of the record.
@@ -60,50 +78,31 @@ pub(crate) fn field_part(code: u16, field: Field) -> Part
     }
 }
 
-// Puts a part behind the others, where there is room for it.
-fn add(part: Part, out: &mut List<'_, Part>)
-    requires { length (items out.old) < room out.old }
-    ensures { Added out.old (part ∷ []) out.new }
-{
-    let _ = out.push(part);
-}
-
 // Puts the fields of a table behind the other parts, where there is room for all.
+#[tactic(auto, using(crate::specs::Layouts::near_at))]
 fn add_fields(fields: &[Field], out: &mut List<'_, Part>)
     requires { (length fields.now ≤ 64) × ((near fields.now ≡ true) × (length (items out.old) + length fields.now ≤ room out.old)) }
     ensures { Added out.old (field_parts 1 fields.now) out.new }
 {
-    let mut code = 1;
-    for field in fields {
-        add(field_part(code, *field), out);
-        code += 1;
-    }
-}
-
-// Puts parts behind the others, where there is room for all.
-fn add_parts(parts: &[Part], out: &mut List<'_, Part>)
-    requires { length (items out.old) + length parts.now ≤ room out.old }
-    ensures { Added out.old parts.now out.new }
-{
-    for part in parts {
-        add(*part, out);
+    for (i, field) in fields.iter().enumerate() {
+        let _ = out.push(field_part(i as u16 + 1, *field));
     }
 }
 
 // The fields of a table as parts, and the others behind them; none of them where there is not room for all.
+#[tactic(auto, using(crate::proofs::Fields::others_fit, common::proofs::Additions::items_fit))]
 pub(crate) fn list_layout(
     fields: &[Field],
     others: &[Part],
     out: &mut List<'_, Part>,
 ) -> Result<(), PartsFault>
     requires { (length fields.now ≤ 64) × ((length others.now ≤ 8) × (near fields.now ≡ true)) }
-    ensures leaves { Leaves (accepted (field_parts 1 fields.now ++ others.now)) out.old out.new result }
-    ensures lends { out.new.table.ghost_name ≡ out.old.table.ghost_name }
+    ensures { Leaves (accepted (field_parts 1 fields.now ++ others.now)) out.old out.new result }
 {
     if out.room() - out.len() < fields.len() + others.len() {
         return Err(PartsFault::TableShort);
     }
     add_fields(fields, out);
-    add_parts(others, out);
+    out.extend_from_slice(others)?;
     Ok(())
 }

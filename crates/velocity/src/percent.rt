@@ -8,7 +8,7 @@ pub struct Percent {
 }
 
 impl Percent {
-    // A number as a percentage, where it is at most 100.
+    // A number as a percentage, where it is at most 100: an `Option` and no `TryFrom`, whose error would say nothing more.
     pub fn new(value: u8) -> Option<Percent>
         ensures { MatchOption result (100 < value) (λ p. p.value ≡ value) }
     {

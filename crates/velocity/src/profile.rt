@@ -1,11 +1,11 @@
 // What is taken from an accepted DF3 record: cell centres, velocities and correlations.
-ghost use Rattle.std.specs.Prelude.{◌≡◌, ℕ, ◌+◌, ◌*◌, ◌<◌, ◌≤◌, true, length, if◌then◌else◌, Some, None, Ok, Err, MatchResult};
-ghost use Rattle.velocity.specs.Layout.{data_size};
-ghost use Rattle.velocity.specs.Df3.{included as included_items, arrays_end, high_correlation};
-ghost use Rattle.velocity.specs.Profile.{told, is_accepted, centre_of, exist, item_number, of_array, ItemWithin, velocity_of, correlation_of, nominal_of};
+ghost use Rattle.std.specs.Prelude.{◌≡◌, ◌*◌, ◌<◌, true, false, if◌then◌else◌, Some, None, Ok, Err, IfOk, MatchResult};
+ghost use Rattle.velocity.specs.declared.profile.ProfileFault.TheVariants.{NotDf3};
+ghost use Rattle.velocity.specs.Df3.{beams, cells};
+ghost use Rattle.velocity.specs.Profile.{told, is_accepted, centre_of, exist, item_number, item_of, velocity_of, correlation_of, nominal_of};
 
-use crate::df3::{beams_of, cells_of, correlation_position, included, judge_df3};
-use crate::layout::word_at;
+use crate::df3::{Accepted, Fixed, NOMINAL};
+use crate::layout::{HEADER, word_at};
 use crate::percent::Percent;
 use common::refusal::Refusal;
 
@@ -13,17 +13,7 @@ const CELL_SIZE: usize = 42;
 
 const BLANKING: usize = 44;
 
-const HEADER: usize = 10;
-
-const OFFSET: usize = 11;
-
 const SCALING: usize = 68;
-
-const NOMINAL: usize = 46;
-
-const VELOCITY_BIT: u32 = 5;
-
-const CORRELATION_BIT: u32 = 7;
 
 // Why nothing is taken from a record.
 #[derive(Clone, Copy, PartialEq, Eq, Debug)]
@@ -34,11 +24,11 @@ pub enum ProfileFault {
     NoCell,
 }
 
-impl ProfileFault {
-    pub fn refusal(self) -> Refusal
-        ensures { result ≡ told self }
-    {
-        let number = match self {
+impl From<ProfileFault> for Refusal {
+    ghost from_gives = { λ f r. r ≡ told f };
+
+    fn from(fault: ProfileFault) -> Refusal {
+        let number = match fault {
             ProfileFault::NotDf3 => 23,
             ProfileFault::NoCell => 24,
         };
@@ -57,62 +47,44 @@ pub struct Velocity {
     pub scaling: i8,
 }
 
-// Whether a record is an accepted DF3 record.
-fn is_profile(kind: u8, bytes: &[u8]) -> bool
-    ensures value { result ≡ is_accepted kind bytes.now }
-    ensures good { result ≡ true → (86 ≤ length bytes.now) × (arrays_end bytes.now ≤ data_size bytes.now) × (high_correlation bytes.now ≡ None) }
+// A record that the format accepts.
+fn accepted(kind: u8, bytes: &[u8]) -> Result<Accepted<'_>, ProfileFault>
+    ensures { MatchResult result (λ r. (r.fixed.bytes.now ≡ bytes.now) × (is_accepted kind bytes.now ≡ true)) (λ e. (e ≡ NotDf3) × (is_accepted kind bytes.now ≡ false)) }
 {
-    judge_df3(kind, bytes).number == 0
+    Accepted::read(kind, bytes).map_err(|_| ProfileFault::NotDf3)
 }
 
 // The centre of a cell, counted from 1, in millimetres.
+#[tactic(auto, using(crate::proofs::Items::near_cell))]
 pub fn centre(kind: u8, bytes: &[u8], cell: usize) -> Result<u32, ProfileFault>
     ensures { result ≡ centre_of kind bytes.now cell }
 {
-    if !is_profile(kind, bytes) {
-        return Err(ProfileFault::NotDf3);
-    }
-    if cell < 1 || cell > cells_of(bytes) {
+    let record = accepted(kind, bytes)?.fixed;
+    if cell < 1 || cell > record.cells() {
         return Err(ProfileFault::NoCell);
     }
-    let blanking = 10 * word_at(bytes, BLANKING) as u32;
-    Ok(blanking + cell as u32 * word_at(bytes, CELL_SIZE) as u32)
+    let blanking = 10 * u32::from(word_at(record.bytes, BLANKING));
+    Ok(blanking + cell as u32 * u32::from(word_at(record.bytes, CELL_SIZE)))
 }
 
-// The number of the item of a beam and a cell, both counted from 1.
-fn item_of(bytes: &[u8], beam: usize, cell: usize) -> Option<usize>
-    requires { 86 ≤ length bytes.now }
-    ensures value { result ≡ (if exist bytes.now beam cell then Some (item_number bytes.now beam cell) else None) }
+// The number of the item of a beam and a cell, both counted from 1, in an array of so many items.
+#[tactic(auto, using(crate::proofs::Items::rows))]
+fn item_of(fixed: &Fixed<'_>, items: usize, beam: usize, cell: usize) -> Result<usize, ProfileFault>
+    ensures value { result ≡ item_of fixed.now.bytes.now items beam cell }
+    ensures within { IfOk result (λ i. (0 < items) × (i < beams fixed.now.bytes.now * cells fixed.now.bytes.now)) }
 {
-    let cells = cells_of(bytes);
-    if beam < 1 || beam > beams_of(bytes) || cell < 1 || cell > cells {
-        return None;
-    }
-    Some((beam - 1) * cells + (cell - 1))
-}
-
-// The number of the item of a beam and a cell in an array that a bit of the configuration includes.
-fn array_item(
-    kind: u8,
-    bytes: &[u8],
-    bit: u32,
-    beam: usize,
-    cell: usize,
-) -> Result<usize, ProfileFault>
-    requires { bit < 16 }
-    ensures value { result ≡ of_array kind bytes.now (included_items bit bytes.now) beam cell (λ i. i) }
-    ensures within { ItemWithin bytes.now bit result }
-{
-    if !is_profile(kind, bytes) || included(bit, bytes) == 0 {
+    if items == 0 {
         return Err(ProfileFault::NotDf3);
     }
-    match item_of(bytes, beam, cell) {
-        Some(i) => Ok(i),
-        None => Err(ProfileFault::NoCell),
+    let cells = fixed.cells();
+    if beam < 1 || beam > fixed.beams() || cell < 1 || cell > cells {
+        return Err(ProfileFault::NoCell);
     }
+    Ok((beam - 1) * cells + (cell - 1))
 }
 
 // The velocity of a beam and a cell.
+#[tactic(auto, using(crate::proofs::Items::all_items))]
 pub fn velocity_at(
     kind: u8,
     bytes: &[u8],
@@ -121,24 +93,13 @@ pub fn velocity_at(
 ) -> Result<Velocity, ProfileFault>
     ensures { result ≡ velocity_of kind bytes.now beam cell }
 {
-    match array_item(kind, bytes, VELOCITY_BIT, beam, cell) {
-        Err(fault) => Err(fault),
-        Ok(i) => {
-            let place = bytes[OFFSET] as usize + HEADER + 2 * i;
-            Ok(Velocity {
-                mantissa: i16::from_le_bytes([bytes[place], bytes[place + 1]]),
-                scaling: i8::from_le_bytes([bytes[SCALING]]),
-            })
-        }
-    }
-}
-
-// A number that is at most 100 as a percentage.
-fn percent(value: u8) -> Percent
-    requires { value ≤ 100 }
-    ensures { result.value ≡ value }
-{
-    Percent { value }
+    let record = accepted(kind, bytes)?.fixed;
+    let i = item_of(&record, record.velocities(), beam, cell)?;
+    let place = record.offset() + HEADER + 2 * i;
+    Ok(Velocity {
+        mantissa: word_at(record.bytes, place).cast_signed(),
+        scaling: record.bytes[SCALING].cast_signed(),
+    })
 }
 
 // The correlation of a beam and a cell.
@@ -150,18 +111,17 @@ pub fn correlation(
 ) -> Result<Percent, ProfileFault>
     ensures { MatchResult result (λ p. correlation_of kind bytes.now beam cell ≡ Ok p.value) (λ e. correlation_of kind bytes.now beam cell ≡ Err e) }
 {
-    match array_item(kind, bytes, CORRELATION_BIT, beam, cell) {
-        Err(fault) => Err(fault),
-        Ok(i) => Ok(percent(bytes[correlation_position(bytes) + HEADER + i])),
-    }
+    let record = accepted(kind, bytes)?.fixed;
+    let i = item_of(&record, record.correlations(), beam, cell)?;
+    let value = record.bytes[record.correlation_position() + HEADER + i];
+    Ok(Percent { value })
 }
 
 // The nominal correlation.
 pub fn nominal_correlation(kind: u8, bytes: &[u8]) -> Result<Percent, ProfileFault>
     ensures { MatchResult result (λ p. nominal_of kind bytes.now ≡ Ok p.value) (λ e. nominal_of kind bytes.now ≡ Err e) }
 {
-    if !is_profile(kind, bytes) {
-        return Err(ProfileFault::NotDf3);
-    }
-    Ok(percent(bytes[NOMINAL]))
+    let record = accepted(kind, bytes)?.fixed;
+    let value = record.bytes[NOMINAL];
+    Ok(Percent { value })
 }

@@ -1,7 +1,8 @@
 -- Data added to a draft piece by piece, and the draft sealed. Assumes nothing.
-use Rattle.std.proofs.Common.{◌≡◌, ℕ, ◌+◌, ◌-◌, ◌^◌, ◌<◌, ◌≤◌, min, true, false, leb, List, [], ◌++◌, length, take, drop, Ok, Err, Result, sym, refl, ap, ◌∙◌, ⊎_elim, add-zero, arith, length-append, length-drop, take-append-drop, length-take}
+use Rattle.std.proofs.Common.{◌≡◌, ℕ, ◌+◌, ◌-◌, ◌^◌, ◌<◌, ◌≤◌, min, true, leb, List, [], ◌++◌, length, take, drop, Ok, Err, Result, sym, refl, ap, ◌∙◌, ⊎_elim, zero-add, arith, length-append, length-drop, length-take}
 use Rattle.std.proofs.lemmas.List.{append_assoc, append-nil, take_at, drop_at, drop-drop}
-use Rattle.std.proofs.lemmas.Bool.{and_right, le-leb, lt-leb, cases_lt, cond-true, cond-false}
+use Rattle.std.proofs.lemmas.Bool.{and_right, le-leb, lt-leb, cases_lt, cond-true}
+use Rattle.std.proofs.lemmas.Grind.{common_steps}
 use Rattle.framing.specs.Binary.{header_of}
 use Rattle.writing.specs.declared.draft.Draft.{Draft}
 use Rattle.writing.specs.declared.drafts.DraftFull.{DraftFull}
@@ -25,7 +26,7 @@ put_twice x y s a le =
     ∙ ap (λ z. take a s ++ z) (sym (append_assoc x y (drop (a + length (x ++ y)) s)))
 
 put_nothing : (s : List ℕ) (a : ℕ) → put_at a [] s ≡ s
-put_nothing s a = ap (λ n. take a s ++ drop n s) (add-zero a) ∙ take-append-drop a s
+put_nothing s a = grind (arith, common_steps)
 
 put_long : (x s : List ℕ) (a : ℕ) → a + length x ≤ length s → length (put_at a x s) ≡ length s
 put_long x s a le = simp (length-append, length-take, length-drop) (omega arith)
@@ -43,8 +44,16 @@ pub record Going (all : List ℕ) (start : Draft) (left : List ℕ) (d : Draft) 
   pub same_series : d.series ≡ start.series
   pub lends : d.space.ghost_name ≡ start.space.ghost_name
 
-pub going_start : (all : List ℕ) (start : Draft) → fits (length start.space.now) (length (content start) + length all) ≡ true → Going all start all start
-going_start all start room = record { holds = refl; leaves = refl; room = room; same_series = refl; lends = refl }
+-- a new draft, with room for all of them
+pub going_start : (all before : List ℕ) (start : Draft) → content start ≡ [] → start.space.now ≡ before → fits (length before) (length all) ≡ true → Going all start all start
+going_start all before start none space room = record {
+  holds = refl;
+  leaves = refl;
+  room = ap (λ x. fits (length x) (length (content start) + length all)) space ∙ ap (λ x. fits (length before) (length x + length all)) none
+      ∙ ap (fits (length before)) (zero-add (length all)) ∙ room;
+  same_series = refl;
+  lends = refl;
+}
 
 -- the first of them are added
 pub going_more : (all x rest : List ℕ) (start d after : Draft) (r : Result (Unit {0}) DraftFull)
@@ -107,11 +116,4 @@ writes series all before after start d r room none same of-start holds leaves ke
     record {
       says = ap Ok answered ∙ sym (cond-true _ (Ok (10 + length all)) (Err full) room);
       leaves = frame ∙ sym (cond-true _ (header_of series all ++ (all ++ drop (10 + length all) before)) before room);
-    }
-
-pub writes_not : (series : ℕ) (d before : List ℕ) → fits (length before) (length d) ≡ false → Writes series d before before (Err full)
-writes_not series d before none =
-    record {
-      says = sym (cond-false _ (Ok (10 + length d)) (Err full) none);
-      leaves = sym (cond-false _ (header_of series d ++ (d ++ drop (10 + length d) before)) before none);
     }

@@ -45,7 +45,7 @@ pub record Rewrites (s : List ℕ) (ps : List Part) (before after : List ℕ) (r
 abbrev pub SameBytes : List ℕ → List Part → List ℕ → List ℕ → Result ℕ AgainFault → Type 0
 SameBytes s ps before after r =
     (meaning : ℕ → List ℕ → Meaning) → Laws meaning → judged binary s ≡ Frame (length s) 1
-    → (meaning 1 s).judgement.number ≡ 0 → ps ≡ (meaning 1 s).parts → length s ≤ length before
+    → (meaning 1 s).judgement ≡ Ok tt → ps ≡ (meaning 1 s).parts → length s ≤ length before
     → (r ≡ Ok (length s)) × (after ≡ s ++ drop (length s) before)
 
 -- each refusal's number, layer and place: those of a part that lies outside, and of a draft that is full

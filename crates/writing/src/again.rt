@@ -22,13 +22,13 @@ pub enum AgainFault {
     Full,
 }
 
-impl AgainFault {
-    pub fn refusal(self) -> Refusal
-        ensures { result ≡ told self }
-    {
-        match self {
-            AgainFault::Outside => ItemFault::Outside.refusal(),
-            AgainFault::Full => DraftFull.refusal(),
+impl From<AgainFault> for Refusal {
+    ghost from_gives = { λ f r. r ≡ told f };
+
+    fn from(fault: AgainFault) -> Refusal {
+        match fault {
+            AgainFault::Outside => Refusal::from(ItemFault::Outside),
+            AgainFault::Full => Refusal::from(DraftFull),
         }
     }
 }

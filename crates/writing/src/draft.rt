@@ -1,7 +1,7 @@
 // A binary frame in the making, over a caller's space.
 ghost use Rattle.std.specs.Prelude.{◌-◌, ◌≤◌, length};
 
-// The data of a draft stand in its space behind the ten bytes that the header will take: `len` of them so far. A draft is not `Drop`: it
+// No call allocates: the data of a draft stand in the caller's space behind the ten bytes that the header will take: `len` of them so far. A draft is not `Drop`: it
 // ends only in `seal` or `scrap`.
 pub struct Draft<'a> {
     pub(crate) space: &'a mut [u8],

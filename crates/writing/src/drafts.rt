@@ -21,10 +21,10 @@ const FAMILY: u8 = 0x10;
 #[derive(Clone, Copy, PartialEq, Eq, Debug)]
 pub struct DraftFull;
 
-impl DraftFull {
-    pub fn refusal(self) -> Refusal
-        ensures { result ≡ told self }
-    {
+impl From<DraftFull> for Refusal {
+    ghost from_gives = { λ f r. r ≡ told f };
+
+    fn from(_full: DraftFull) -> Refusal {
         Refusal {
             number: 25,
             layer: 3,
@@ -55,7 +55,7 @@ fn header_of(series: u8, data: &[u8]) -> [u8; HEADER]
 {
     let [size_low, size_high] = (data.len() as u16).to_le_bytes();
     let [sum_low, sum_high] = checksum_of(data).to_le_bytes();
-    let front = [
+    let mut header = [
         SYNC,
         HEADER_BYTE,
         series,
@@ -64,20 +64,12 @@ fn header_of(series: u8, data: &[u8]) -> [u8; HEADER]
         size_high,
         sum_low,
         sum_high,
+        0,
+        0,
     ];
-    let [low, high] = checksum_of(&front).to_le_bytes();
-    [
-        SYNC,
-        HEADER_BYTE,
-        series,
-        FAMILY,
-        size_low,
-        size_high,
-        sum_low,
-        sum_high,
-        low,
-        high,
-    ]
+    let sum = checksum_of(&header[..8]).to_le_bytes();
+    header[8..].copy_from_slice(&sum);
+    header
 }
 
 // Writes the header in front of the first `len` data bytes of a space, if there is room for a header; answers the frame's length.
@@ -130,10 +122,7 @@ impl<'a> Draft<'a> {
         ensures does { Adds self.old «data».now self.new (Ok tt) }
         ensures lends { self.new.space.ghost_name ≡ self.old.space.ghost_name }
     {
-        let behind = HEADER + self.len;
-        for (i, b) in data.iter().enumerate() {
-            self.space[behind + i] = *b;
-        }
+        put(self.space, HEADER + self.len, data);
         self.len += data.len();
     }
 
@@ -149,7 +138,8 @@ impl<'a> Draft<'a> {
         Ok(())
     }
 
-    // Ends the draft: writes the header in front of the data, and answers the frame's length; 0 where the space has no room for a header.
+    // Ends the draft: writes the header in front of the data, and answers the frame's length; 0 where the space has no room for a header. Its
+    // contract has promised that number, so it is no `Option`.
     pub fn seal(self) -> usize
         ensures { Seals self.entry.series (content self.entry) self.entry.space.now self.exit.0.now result }
     {

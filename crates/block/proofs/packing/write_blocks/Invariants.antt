@@ -1,10 +1,9 @@
-use Rattle.std.proofs.Common.{◌≡◌, ◌*◌, ◌++◌, take, drop}
-use Rattle.std.specs.List.{AllByRecursion}
-use Rattle.block.specs.Entries.{Fits}
-use Rattle.block.specs.Packing.{blocks}
-use Rattle.block.specs.Blocks.{block_size, per_block}
+use Rattle.std.specs.Iterator.Adapters.{enumerate_source, enumerate_count}
+use Rattle.std.specs.Slice.Iter.{chunks_rest, chunks_size}
+use Rattle.block.proofs.Writes.{Written}
 use Rattle.block.proofs.packing.write_blocks.Given as goal
 
--- the blocks so far are written, and the rest of the space is as it was
 abbrev pub invariant-loop-i : goal.invariant-loop-i
-invariant-loop-i l = (l.space ≡ blocks l.i l.entries ++ drop (block_size * l.i) l.initial.space) × AllByRecursion Fits (take (per_block * l.i) l.entries)
+invariant-loop-i l =
+    let parts = enumerate_source l.i-iterator in
+    Written l.entries l.initial.space l.space (chunks_rest parts) (chunks_size parts) (enumerate_count l.i-iterator)

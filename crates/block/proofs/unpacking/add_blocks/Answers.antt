@@ -1,30 +1,21 @@
-use Rattle.std.proofs.Common.{◌≡◌, ℕ, List, ap, arith}
-use Rattle.register.specs.declared.entry.Entry.{Entry}
-use Rattle.block.specs.Parts.{part}
-use Rattle.block.specs.Blocks.{block_size, count_of, entries_of}
-use Rattle.block.proofs.Registers.{few-at, held}
+use Rattle.std.proofs.Common.{[], get_or, refl, arith}
+use Rattle.block.specs.Blocks.{entries_of}
+use Rattle.block.proofs.Blocks.{count_long, entries_count}
 use Rattle.block.proofs.Gains.{added_step, step_fits}
 use Rattle.block.proofs.unpacking.add_blocks.Goals as goal
 
-pub add_entries-requires : goal.add_entries-requires
-add_entries-requires c =
-    let s = c.args.bytes.now in
-    let i = c.loop-i.i in
-    let n = c.args.blocks in
-    let f : ℕ → List Entry = λ j. entries_of (part block_size j s) in
-    let less = c.loop-i-test.true in
-    let count : count_of c.block_at.result.now ≡ count_of (part block_size i s) = ap count_of c.block_at.ensures.value in
-    let fits = step_fits c.args.out.now c.loop-i.out f i c.loop-i.invariant n less c.requires.1 in (
-      c.block_at.ensures.len,
-      (
-        omega (arith, (few-at s (λ k. (c.type_inv.bytes k).fits) n c.requires.0 i less).1),
-        omega (arith, held s (λ k. (c.type_inv.bytes k).fits) n c.requires.0 i less),
-      ),
+pub add_entries-requires-clause-room : goal.add_entries-requires-clause-room
+add_entries-requires-clause-room c =
+    let blocks = c.args.blocks.now in
+    let i = c.loop-block.block-index in
+    omega (
+      arith,
+      step_fits c.args.out.now c.loop-block.out entries_of blocks i [] c.loop-block-test.true c.loop-block.invariant
+          (omega (arith, entries_count blocks, c.requires.room)),
+      count_long (get_or blocks i []),
     )
 
-pub loop-i-preserved : goal.loop-i-preserved
-loop-i-preserved c =
-    let s = c.args.bytes.now in
-    let f : ℕ → List Entry = λ j. entries_of (part block_size j s) in
-    added_step c.args.out.now c.loop-i.out f c.loop-i.i c.loop-i.invariant c.add_entries.new.out _
-    (ap entries_of c.block_at.ensures.value) c.add_entries.ensures
+pub loop-block-preserved : goal.loop-block-preserved
+loop-block-preserved c =
+    added_step c.args.out.now c.loop-block.out entries_of c.args.blocks.now c.loop-block.block-index [] c.loop-block-test.true c.loop-block.invariant
+    c.add_entries.new.out _ refl c.add_entries.ensures

@@ -1,6 +1,8 @@
+use Rattle.std.proofs.Common.{take}
+use Rattle.std.specs.List.{flat_map}
 use Rattle.common.specs.Added.{Added}
-use Rattle.block.specs.Unpacking.{entries_in}
+use Rattle.block.specs.Blocks.{entries_of}
 use Rattle.block.proofs.unpacking.add_blocks.Given as goal
 
-abbrev pub invariant-loop-i : goal.invariant-loop-i
-invariant-loop-i l = Added l.initial.out (entries_in l.bytes l.i) l.out
+abbrev pub invariant-loop-block : goal.invariant-loop-block
+invariant-loop-block l = Added l.initial.out (flat_map entries_of (take l.block-index l.blocks)) l.out

@@ -1,32 +1,37 @@
-use Rattle.std.proofs.Common.{◌≡◌, ℕ, ◌+◌, ◌<◌, ◌≤◌, List, [], ◌∷◌, length, refl, ap, ◌∙◌, subst, arith}
+use Rattle.std.proofs.Common.{◌≡◌, ℕ, ◌+◌, ◌≤◌, List, [], ◌∷◌, length, map, ap, ◌∙◌, subst, arith}
+use Rattle.std.specs.List.{flat_map}
+use Rattle.std.proofs.lemmas.List.{take_all}
+use Rattle.std.proofs.lemmas.List.Concat.{flat_map_single}
 use Rattle.common.specs.Lists.{items, room}
 use Rattle.common.specs.Added.{Added}
 use Rattle.common.proofs.Additions.{added_one}
 use Rattle.register.specs.declared.entry.Entry.{Entry}
-use Rattle.block.specs.Parts.{part, each}
-use Rattle.block.specs.Entries.{entry_size, entry_of}
-use Rattle.block.specs.Blocks.{count_of}
-use Rattle.block.proofs.Parts.{length-each}
+use Rattle.block.specs.Entries.{entry_of}
+use Rattle.block.specs.Blocks.{entries_of}
+use Rattle.block.proofs.Blocks.{count_long}
 use Rattle.block.proofs.Gains.{added_step, step_fits}
 use Rattle.block.proofs.unpacking.add_entries.Goals as goal
 
-pub loop-k-preserved : goal.loop-k-preserved
-loop-k-preserved c =
-    let b = c.args.block.now in
-    let f : ℕ → List Entry = λ j. entry_of (part entry_size j b) ∷ [] in
+abbrev one : List ℕ → List Entry
+one s = entry_of s ∷ []
+
+pub loop-slot-preserved : goal.loop-slot-preserved
+loop-slot-preserved c =
     let a = c.args.out.now in
-    let k = c.loop-k.k in
-    let all : length (each f (count_of b)) ≡ count_of b = length-each 1 f (count_of b) (λ _ _. refl) ∙ omega arith in
-    let less : k < count_of b = omega (arith, c.u16_at-count.ensures) in
-    let free : length (items c.loop-k.out) + 1 ≤ room c.loop-k.out =
-    step_fits a c.loop-k.out f k c.loop-k.invariant (count_of b) less (omega (arith, c.requires.1.1)) in
+    let before = c.loop-slot.out in
+    let xs = c.slots-slot-items.result.now in
+    let i = c.loop-slot.slot-index in
+    let less = c.loop-slot-test.true in
+    let all : flat_map one xs ≡ entries_of c.args.block.now = flat_map_single entry_of xs ∙ ap (map entry_of) c.slots-slot-items.ensures in
+    let fits : length (items before) + 1 ≤ room before =
+    step_fits a before one xs i [] less c.loop-slot.invariant (omega (arith, ap length all, count_long c.args.block.now, c.requires.room)) in
     let said = c.push.ensures in
-    added_step a c.loop-k.out f k c.loop-k.invariant c.push.new.self _ (ap (λ e. e ∷ []) c.entry_at.ensures)
-    (added_one c.loop-k.out c.push.new.self c.entry_at.result (omega arith) said.items said.table said.lends)
+    added_step a before one xs i [] less c.loop-slot.invariant c.push.new.self _ (ap (λ e. e ∷ []) c.entry_of.ensures)
+    (added_one before c.push.new.self c.entry_of.result (omega arith) said.items said.table said.lends)
 
 pub returns : goal.returns
 returns c =
-    let b = c.args.block.now in
-    let f : ℕ → List Entry = λ j. entry_of (part entry_size j b) ∷ [] in
-    let end : c.loop-k.k ≡ count_of b = omega (arith, c.u16_at-count.ensures) in
-    subst (λ n. Added c.args.out.now (each f n) c.loop-k.out) end c.loop-k.invariant
+    let xs = c.slots-slot-items.result.now in
+    subst (λ es. Added c.args.out.now es c.loop-slot.out)
+    (ap (flat_map one) (take_all c.loop-slot.slot-index xs c.loop-slot-test.false) ∙ flat_map_single entry_of xs ∙ ap (map entry_of) c.slots-slot-items.ensures)
+    c.loop-slot.invariant

@@ -11,9 +11,9 @@ returns-then-is_zero c =
     let b = c.args.block.now in
     let i = c.args.i in
     let n = c.args.blocks in
-    let count = c.u16_at-count.ensures in
+    let count = c.count_in-count.ensures in
     let right : count_right (eqb (i + 1) n) (count_of b) ≡ true =
     ap (count_right (eqb (i + 1) n)) (sym count) ∙ sym c.if-not-is_right_count.ensures in
-    c.is_zero-then-is_zero.ensures ∙ ap all_zero (between_is b (entry_size * c.u16_at-count.result) entries_end)
+    c.is_zero-then-is_zero.ensures ∙ ap all_zero (between_is b (entry_size * c.count_in-count.result) entries_end)
     ∙ ap (λ m. all_zero (drop (entry_size * m) (take entries_end b))) count
-    ∙ sym (form_free n i b right (sym c.u32_at.ensures ∙ c.if-u32_at-i.false) (sym c.if-is_zero.ensures))
+    ∙ sym (form_free n i b right (sym c.number_in.ensures ∙ c.if-number_in-i.false) (sym c.if-is_zero.ensures))

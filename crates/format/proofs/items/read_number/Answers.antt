@@ -1,19 +1,14 @@
-use Rattle.std.proofs.Common.{◌∙◌, arith, w64, SFits, rules}
+use Rattle.std.proofs.Common.{◌≡◌, length, Some, true, refl, ap, ◌∙◌, arith, w32, w64, SFits, rules}
 use Rattle.std.proofs.lemmas.Int.{to_z-of_z}
-use Rattle.format.proofs.Numbers.{value_one, value-two, value-four}
+use Rattle.format.specs.Items.{value}
+use Rattle.format.proofs.Numbers.{value-four, number-four}
 use Rattle.format.proofs.items.read_number.Goals as goal
 
-pub returns-then-bytes-eq1 : goal.returns-then-bytes-eq1
-returns-then-bytes-eq1 c =
-    let fits : SFits w64 c.one_byte.result = search rules in
-    to_z-of_z w64 _ fits ∙ c.one_byte.ensures ∙ value_one c.args.signed c.args.bytes.now c.if-bytes-eq1.true
-
-pub returns-then-bytes-eq2 : goal.returns-then-bytes-eq2
-returns-then-bytes-eq2 c =
-    let fits : SFits w64 c.two_bytes.result = search rules in
-    to_z-of_z w64 _ fits ∙ c.two_bytes.ensures ∙ value-two c.args.signed c.args.bytes.now c.if-bytes-eq2.true
-
-pub returns : goal.returns
-returns c =
-    let fits : SFits w64 c.four_bytes.result = search rules in
-    to_z-of_z w64 _ fits ∙ c.four_bytes.ensures ∙ value-four c.args.signed c.args.bytes.now (omega (arith, c.requires))
+pub returns-in-len4 : goal.returns-in-len4
+returns-in-len4 c =
+    let s = c.args.bytes.now in
+    let four : length s ≡ 4 = omega arith in
+    let wide : SFits w64 c.from-in-len4.result = search rules in
+    let fits : SFits w32 c.from_le_bytes-in-len4.result = search rules in
+    let same = to_z-of_z w64 _ wide ∙ c.from-in-len4.ensures ∙ to_z-of_z w32 _ fits ∙ c.from_le_bytes-in-len4.ensures in
+    number-four c.args.signed s _ four c.if-signed-3.true same

@@ -1,8 +1,7 @@
-use Rattle.std.proofs.Common.{◌≡◌, ◌+◌, ◌*◌, ◌%◌, ◌<◌, drop}
-use Rattle.framing.specs.Checksum.{words}
+use Rattle.std.proofs.Common.{◌≡◌, ◌+◌, ◌%◌, take}
+use Rattle.std.specs.List.{sum_by}
+use Rattle.std.specs.Int.{from_le_bytes, w16}
 use Rattle.framing.proofs.checksum.word_sum.Given as goal
 
--- what is left of the bytes completes the sum
-abbrev pub invariant-loop-i : goal.invariant-loop-i
-invariant-loop-i l =
-    (l.sum < 65536) × ((l.sum + words (drop (2 * l.i) l.bytes)) % 65536 ≡ (0xB58C + words l.bytes) % 65536)
+abbrev pub invariant-loop-word : goal.invariant-loop-word
+invariant-loop-word l = l.sum ≡ (0xB58C + sum_by (from_le_bytes w16) (take l.word-index l.words)) % 65536

@@ -1,4 +1,4 @@
-use Rattle.std.proofs.Common.{ℕ, ◌-◌, ◌≤◌, List, length}
+use Rattle.std.proofs.Common.{ℕ, List}
 use Rattle.reading.specs.Reading.{Found, Reading}
 use Rattle.reading.proofs.steps.next_record.Given as goal
 
@@ -6,7 +6,4 @@ use Rattle.reading.proofs.steps.next_record.Given as goal
 abbrev pub invariant-loop-place : goal.invariant-loop-place
 invariant-loop-place g l =
     let verdict = g.F.Framing.verdict l.framing in
-    (l.from ≤ l.place) × ((rs : List Found) (e : ℕ) → Reading verdict l.closed l.bytes l.place rs e → Reading verdict l.closed l.bytes l.from rs e)
-
-abbrev pub decreases-loop-place : goal.decreases-loop-place
-decreases-loop-place g l = length l.bytes - l.place
+    (rs : List Found) (e : ℕ) → Reading verdict l.closed l.bytes l.place rs e → Reading verdict l.closed l.bytes l.from rs e

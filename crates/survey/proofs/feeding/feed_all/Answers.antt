@@ -8,32 +8,35 @@ loop-init g c = (refl, goes_nowhere _ _ _, refl, refl)
 pub loop-preserved : goal.loop-preserved
 loop-preserved g c =
     let inv = c.loop.invariant in
-    (search rules, goes_further inv.1 (fed_in inv.2 c.feed.ensures.law), c.feed.ensures.room ∙ inv.2, c.feed.ensures.lends ∙ inv.3)
+    let table = c.feed.ensures.table in
+    (search rules, goes_further inv.1 (fed_in inv.2 c.feed.ensures.law), table.same_room ∙ inv.2, table.lends ∙ inv.3)
+
+pub returns-in_err-n : goal.returns-in_err-n
+returns-in_err-n g c =
+    let inv = c.loop.invariant in
+    record { law = ends_failed _ c.from_residual.ensures.0 inv.1; room = inv.2; lends = inv.3 }
 
 pub returns-in-Err : goal.returns-in-Err
 returns-in-Err g c =
     let inv = c.loop.invariant in
-    record { law = ends_failed _ inv.1; room = inv.2; lends = inv.3 }
-
-pub returns-in-Err-feed : goal.returns-in-Err-feed
-returns-in-Err-feed g c =
-    let inv = c.loop.invariant in
+    let table = c.feed.ensures.table in
     record {
-      law = ends-refused _ _ c.refusal.ensures (goes_further inv.1 (fed_in inv.2 c.feed.ensures.law));
-      room = c.feed.ensures.room ∙ inv.2;
-      lends = c.feed.ensures.lends ∙ inv.3;
+      law = ends-refused _ _ c.from.ensures (goes_further inv.1 (fed_in inv.2 c.feed.ensures.law));
+      room = table.same_room ∙ inv.2;
+      lends = table.lends ∙ inv.3;
     }
 
-pub returns-in-Drained : goal.returns-in-Drained
-returns-in-Drained g c =
+pub returns-in-Ok-Drained : goal.returns-in-Ok-Drained
+returns-in-Ok-Drained g c =
     let inv = c.loop.invariant in
+    let table = c.feed.ensures.table in
     record {
-      law = ends-drained inv.1 (fed_in inv.2 c.feed.ensures.law) (c.in-Ok-feed.is ∙ ap Ok c.in-Drained.is);
-      room = c.feed.ensures.room ∙ inv.2;
-      lends = c.feed.ensures.lends ∙ inv.3;
+      law = ends-drained inv.1 (fed_in inv.2 c.feed.ensures.law) (search rules);
+      room = table.same_room ∙ inv.2;
+      lends = table.lends ∙ inv.3;
     }
 
 pub returns : goal.returns
 returns g c =
     let inv = c.loop.invariant in
-    record { law = ends_failed _ inv.1; room = inv.2; lends = inv.3 }
+    record { law = ends_failed _ (search rules) inv.1; room = inv.2; lends = inv.3 }

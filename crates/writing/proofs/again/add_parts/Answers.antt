@@ -5,13 +5,10 @@ use Rattle.format.specs.Items.{inside}
 use Rattle.format.specs.Meaning.{joined_parts, bytes_of}
 use Rattle.writing.specs.Drafts.{Adds}
 use Rattle.writing.specs.Again.{all_inside}
-use Rattle.writing.proofs.Filling.{Going, going_start, going_more, going_all}
+use Rattle.writing.proofs.Filling.{Going, going_more, going_all}
 use Rattle.writing.proofs.Rewriting.{no_part}
 use Rattle.writing.proofs.again.add_parts.Goals as goal
 use Rattle.writing.proofs.again.add_parts.Goals.{in-Ok, in_default}
-
-pub loop-part-init : goal.loop-part-init
-loop-part-init c = (c.requires.0, going_start (joined_parts c.args.record.now c.args.parts.now) c.args.draft.now c.requires.1)
 
 pub loop-part-preserved : goal.loop-part-preserved
 loop-part-preserved c =
@@ -36,13 +33,11 @@ loop-part-preserved c =
       | in_default w ↦ absurd (both_ways (inside s p) w.in_default.ensures.0 both.0)
     ]
 
-pub returns : goal.returns
-returns c =
+pub returns-clause-space : goal.returns-clause-space
+returns-clause-space c =
     let s = c.args.record.now in
     let ps = c.args.parts.now in
     let start = c.args.draft.now in
     let d = c.loop-part.draft in
-    let inv = c.loop-part.invariant in
-    let g = subst (λ x. Going (joined_parts s ps) start (joined_parts s x) d) (drop_all c.loop-part.part-index ps c.loop-part-test.false) inv.1 in
-    let all = going_all (joined_parts s ps) start d g in
-    record { content = all.0; space = all.1; series = g.same_series; lends = g.lends }
+    (going_all (joined_parts s ps) start d
+    (subst (λ x. Going (joined_parts s ps) start (joined_parts s x) d) (drop_all c.loop-part.part-index ps c.loop-part-test.false) c.loop-part.invariant.1)).1

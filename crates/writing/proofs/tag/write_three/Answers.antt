@@ -1,7 +1,7 @@
-use Rattle.std.proofs.Common.{◌≡◌, ℕ, ◌+◌, ◌-◌, ◌^◌, min, true, List, [], ◌++◌, length, Ok, sym, ap, ◌∙◌, subst, zero-add, arith, length-append, rules}
+use Rattle.std.proofs.Common.{◌≡◌, ℕ, ◌+◌, ◌-◌, ◌^◌, min, true, List, [], ◌++◌, length, Ok, sym, ap, ◌∙◌, subst, arith, length-append, rules}
 use Rattle.std.proofs.lemmas.List.{append-nil}
-use Rattle.writing.specs.Drafts.{content, fits, Writes}
-use Rattle.writing.proofs.Filling.{fits_capped, writes, writes_not, Going, going_start, going_more, going_all}
+use Rattle.writing.specs.Drafts.{fits, Writes}
+use Rattle.writing.proofs.Filling.{fits_capped, writes, Going, going_start, going_more, going_all}
 use Rattle.writing.proofs.tag.write_three.Goals as goal
 
 -- what the test for room says of all three pieces
@@ -11,16 +11,6 @@ room_is space x y z m n e f =
     let long : length (x ++ (y ++ z)) ≡ length x + (length y + length z) = simp length-append in
     let sum : n ≡ min (length (x ++ (y ++ z))) (2 ^ 64 - 1) = omega arith in
     ap (fits space) sum ∙ fits_capped space (length (x ++ (y ++ z)))
-
-pub returns-then-not-has_room : goal.returns-then-not-has_room
-returns-then-not-has_room c =
-    let x = c.args.first.now in
-    let y = c.args.second.now in
-    let z = c.args.third.now in
-    let before = c.args.space.now in
-    writes_not c.args.series (x ++ (y ++ z)) before
-    (sym (room_is (length before) x y z c.saturating_add.result c.saturating_add-size.result c.saturating_add.ensures c.saturating_add-size.ensures)
-    ∙ sym c.if-not-has_room.ensures)
 
 pub returns : goal.returns
 returns c =
@@ -34,8 +24,7 @@ returns c =
     sym (room_is (length before) x y z c.saturating_add.result c.saturating_add-size.result c.saturating_add.ensures c.saturating_add-size.ensures)
     ∙ sym c.if-not-has_room.ensures in
     let start = c.start-draft.result in
-    let sum : length (content start) + length all ≡ length all = ap (λ x. length x + length all) c.start-draft.ensures.content ∙ zero-add (length all) in
-    let g0 = going_start all start (ap (λ x. fits (length x) (length (content start) + length all)) c.start-draft.ensures.space ∙ ap (fits (length before)) sum ∙ room) in
+    let g0 = going_start all before start c.start-draft.ensures.content c.start-draft.ensures.space room in
     let d1 = c.add.new.self in
     let d2 = c.add-2.new.self in
     let d = c.add-3.new.self in
@@ -44,9 +33,6 @@ returns c =
     let left_over = subst (λ w. Going all start w d2) (sym (append-nil z)) g2 in
     let g3 = going_more all z [] start d2 d c.add-3.result left_over c.add-3.ensures.does c.add-3.ensures.lends in
     let filled = going_all all start d g3 in
-    let r = c.seal.result in
-    let done : Writes s all before c.seal.new.self.0 (Ok r) =
-    writes s all before c.seal.new.self.0 start d r room c.start-draft.ensures.content c.start-draft.ensures.space
+    let done = writes s all before c.seal.new.self.0 start d c.seal.result room c.start-draft.ensures.content c.start-draft.ensures.space
     c.start-draft.ensures.series filled.0 filled.1 g3.same_series c.seal.ensures in
-    let left : (after : List ℕ) → c.seal.new.self.0 ≡ after → Writes s all before after (Ok r) = λ after e. subst (λ x. Writes s all before x (Ok r)) e done in
-    left _ (search rules)
+    subst (λ x. Writes s all before x (Ok c.seal.result)) (search rules) done

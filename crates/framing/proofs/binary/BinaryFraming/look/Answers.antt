@@ -3,7 +3,5 @@ use Rattle.framing.specs.Binary.{ExactlyFrames}
 use Rattle.framing.proofs.BinaryFrames.{exactly_frames}
 use Rattle.framing.proofs.binary.BinaryFraming.look.Goals as goal
 
-pub returns : goal.returns
-returns c =
-    let s = c.args.bytes.now in
-    record { verdict = c.judge.ensures; frames = subst (ExactlyFrames s) (sym c.judge.ensures) (exactly_frames s (λ i. (c.type_inv.bytes i).fits)) }
+pub returns-clause-frames : goal.returns-clause-frames
+returns-clause-frames c = let s = c.args.bytes.now in subst (ExactlyFrames s) (sym c.judge.ensures) (exactly_frames s (λ i. (c.type_inv.bytes i).fits))

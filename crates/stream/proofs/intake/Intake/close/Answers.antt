@@ -1,6 +1,5 @@
-use Rattle.stream.proofs.Histories.{held_of, tied_of}
-use Rattle.stream.proofs.Turns.{close-held}
+use Rattle.stream.proofs.Turns.{close_tied}
 use Rattle.stream.proofs.intake.Intake.close.Goals as goal
 
-pub returns : goal.returns
-returns c = record { does = c.mark_closed.ensures; law = λ t h es k. tied_of (close-held (held_of k) _ _ c.mark_closed.ensures) }
+pub returns-clause-law : goal.returns-clause-law
+returns-clause-law c t h es k = close_tied c.mark_closed.ensures k

@@ -1,13 +1,12 @@
-use Rattle.std.proofs.Common.{refl}
+use Rattle.std.proofs.Common.{rules}
 use Rattle.stream.proofs.Feedings.{feeding, not_fed, feeding_law}
 use Rattle.stream.proofs.intake.Intake.feed.Goals as goal
 
-pub returns : goal.returns
-returns g c =
-    let d = feeding c.in_default.ensures c.take_all.ensures.does in
-    record { does = d; rest = c.take_all.ensures.rest; law = feeding_law d; room = c.take_all.ensures.room; lends = c.take_all.ensures.lends }
+pub returns-clause-does : goal.returns-clause-does
+returns-clause-does g c = feeding c.in_ok-accept.ensures c.take_all.ensures.does
 
-pub returns-in-Err : goal.returns-in-Err
-returns-in-Err g c =
-    let d = not_fed c.in-Err.ensures in
-    record { does = d; rest = refl; law = feeding_law d; room = refl; lends = refl }
+pub returns-clause-law : goal.returns-clause-law
+returns-clause-law g c = feeding_law (returns-clause-does g c)
+
+pub returns-in_err-accept-clause-does : goal.returns-in_err-accept-clause-does
+returns-in_err-accept-clause-does g c = not_fed c.in_err-accept.ensures (search rules)
