@@ -1,2 +1,3 @@
+pub mod Pieces
 pub mod Registered
 pub mod Terms

@@ -1,7 +1,8 @@
 // Standard input, fed to an intake.
-ghost use Rattle.std.specs.Prelude.{◌≡◌, ◌≤◌, length, IfOk};
+ghost use Rattle.std.specs.Prelude.{◌≡◌, ◌≤◌, length, drop, nat_lt, IfOk};
 ghost use Rattle.common.specs.Lists.{items, room};
 ghost use Rattle.stream.specs.View.{view, terms};
+ghost use Rattle.survey.specs.Pieces.{asked};
 ghost use Rattle.survey.specs.Registered.{Registers};
 ghost use Rattle.survey.specs.Terms.{survey_terms};
 
@@ -16,13 +17,16 @@ use register::entry::Entry;
 use stream::answers::Taken;
 use stream::intake::Intake;
 
-// Reads the next piece of standard input into a space, at most as many bytes as may wait: how many they are, and whether the input ends with them.
+// Reads the next piece of standard input into a space, at most as many bytes as may wait: how many they are, and whether the input ends with them,
+// since there were fewer than were asked for.
 pub fn next_piece(
     rt: &HostRuntime,
     intake: &Intake,
     piece: &mut [u8],
 ) -> anyhow::Result<(usize, bool)>
-    ensures { IfOk result (λ p. p.0 ≤ length piece.old) }
+    ensures few { IfOk result (λ p. p.0 ≤ asked (view intake.now) (length piece.old)) }
+    ensures last { IfOk result (λ p. p.1 ≡ nat_lt p.0 (asked (view intake.now) (length piece.old))) }
+    ensures rest { drop (asked (view intake.now) (length piece.old)) piece.new ≡ drop (asked (view intake.now) (length piece.old)) piece.old }
 {
     let free = intake.free().min(piece.len());
     let n = fill(rt, &mut piece[0..free])?;
