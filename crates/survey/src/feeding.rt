@@ -1,5 +1,5 @@
 // Standard input, fed to an intake.
-ghost use Rattle.std.specs.Prelude.{◌≡◌, ◌≤◌, length, drop, nat_lt, IfOk};
+ghost use Rattle.std.specs.Prelude.{◌≡◌, ◌≤◌, length, drop, nat_lt, IfOk, IsErr};
 ghost use Rattle.common.specs.Lists.{items, room};
 ghost use Rattle.stream.specs.View.{view, terms};
 ghost use Rattle.survey.specs.Pieces.{asked};
@@ -47,6 +47,7 @@ pub fn feed_all<F: Framing, G: Format>(
 ) -> anyhow::Result<Option<Refusal>>
     ensures law { Registers (terms (F.Framing.verdict framing.now) (F.Framing.reach framing.now) (G.Format.meaning formats.now) (room register.old)) (view intake.old) (view intake.new) (items register.old) (items register.new) result }
     ensures room { room register.new ≡ room register.old }
+    ensures no_piece { length piece.old ≡ 0 → IsErr result }
     ensures lends { register.new.table.ghost_name ≡ register.old.table.ghost_name }
 {
     if piece.is_empty() {
