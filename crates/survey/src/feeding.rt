@@ -1,9 +1,10 @@
 // Standard input, fed to an intake.
 ghost use Rattle.std.specs.Prelude.{◌≡◌, ◌≤◌, length, drop, nat_lt, IfOk, IsErr};
 ghost use Rattle.common.specs.Lists.{items, room};
+ghost use Rattle.common.specs.Tables.{SameTable};
 ghost use Rattle.stream.specs.View.{view, terms};
 ghost use Rattle.survey.specs.Pieces.{asked};
-ghost use Rattle.survey.specs.Registered.{Registers};
+ghost use Rattle.survey.specs.Registered.{Registers, WithoutBytes};
 ghost use Rattle.survey.specs.Terms.{survey_terms};
 
 use crate::setup::{SPACE, all_formats, both_framings};
@@ -33,6 +34,24 @@ pub fn next_piece(
     Ok((n, n < free))
 }
 
+// Takes what waits of an open stream, where no piece has room for a byte: a refusal is told, and else that reading on would bring nothing.
+fn take_what_waits<F: Framing, G: Format>(
+    framing: &F,
+    formats: &G,
+    intake: &mut Intake,
+    register: &mut List<'_, Entry>,
+    space: &mut [u8],
+) -> anyhow::Result<Option<Refusal>>
+    ensures law { Registers (terms (F.Framing.verdict framing.now) (F.Framing.reach framing.now) (G.Format.meaning formats.now) (room register.old)) (view intake.old) (view intake.new) (items register.old) (items register.new) result }
+    ensures does { WithoutBytes (terms (F.Framing.verdict framing.now) (F.Framing.reach framing.now) (G.Format.meaning formats.now) (room register.old)) (view intake.old) (view intake.new) (items register.old) (items register.new) space.old space.new result }
+    ensures table { SameTable register.old register.new }
+{
+    match intake.feed(framing, formats, register, space, &[], false) {
+        Err(fault) => Ok(Some(Refusal::from(fault))),
+        Ok(_) => Err(anyhow!("a piece without room brings no byte")),
+    }
+}
+
 // Feeds standard input to an intake, piece by piece, by any framing and formats, until it ends or a call is refused. The loop has a bound that no
 // input reaches, since a loop must be seen to end. A refusal is no failure of reading, so it is answered beside the errors. What is lent to each take
 // is lent here, each by itself.
@@ -47,11 +66,11 @@ pub fn feed_all<F: Framing, G: Format>(
 ) -> anyhow::Result<Option<Refusal>>
     ensures law { Registers (terms (F.Framing.verdict framing.now) (F.Framing.reach framing.now) (G.Format.meaning formats.now) (room register.old)) (view intake.old) (view intake.new) (items register.old) (items register.new) result }
     ensures room { room register.new ≡ room register.old }
-    ensures no_piece { length piece.old ≡ 0 → IsErr result }
+    ensures no_piece { length piece.old ≡ 0 → WithoutBytes (terms (F.Framing.verdict framing.now) (F.Framing.reach framing.now) (G.Format.meaning formats.now) (room register.old)) (view intake.old) (view intake.new) (items register.old) (items register.new) space.old space.new result }
     ensures lends { register.new.table.ghost_name ≡ register.old.table.ghost_name }
 {
     if piece.is_empty() {
-        return Err(anyhow!("a piece without room brings no byte"));
+        return take_what_waits(framing, formats, intake, register, space);
     }
     for _ in 0..u64::MAX {
         let (n, last) = next_piece(rt, intake, piece)?;
