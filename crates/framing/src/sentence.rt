@@ -20,14 +20,28 @@ fn is_payload(b: u8) -> bool
     matches!(b, 0x20..=0x7E) && b != b'$' && b != b'*'
 }
 
-// How many payload bytes stand in front.
-fn payload_len(bytes: &[u8]) -> usize
+// How many payload bytes stand in front. Not inlined, as the checksum of frames is not.
+#[inline(never)]
+fn payload_run(bytes: &[u8]) -> usize
     ensures value { result ≡ prefix_len payload bytes.now }
     ensures bound { result ≤ length bytes.now }
 {
     bytes.iter().take_while(|b| is_payload(**b)).count()
 }
 
+// The same. In noise mostly none does, which is seen here.
+fn payload_len(bytes: &[u8]) -> usize
+    ensures value { result ≡ prefix_len payload bytes.now }
+    ensures bound { result ≤ length bytes.now }
+{
+    match bytes {
+        [first, ..] if is_payload(*first) => payload_run(bytes),
+        _ => 0,
+    }
+}
+
+// Not inlined either.
+#[inline(never)]
 fn xor_of(bytes: &[u8]) -> u8
     ensures { result ≡ xor_of bytes.now }
 {

@@ -13,7 +13,9 @@ pub enum Next {
     End { place: usize },
 }
 
-// Works the reading of the bytes on from a place, to the next record or to where it stops or ends.
+// Works the reading of the bytes on from a place, to the next record or to where it stops or ends. Not inlined: its loop takes a turn for each byte of
+// noise, and is short only where a caller's values do not take its registers.
+#[inline(never)]
 pub fn next_record<F: Framing>(framing: &F, bytes: &[u8], from: usize, closed: bool) -> Next
     ensures { NextOf (F.Framing.verdict framing.now) closed bytes.now from result }
 {
