@@ -19,6 +19,7 @@ pub record Good (s : List ℕ) : Type 0 where
   pub long : 86 ≤ length s
   pub least : 76 ≤ df3_offset s
   pub most : arrays_end s ≤ data_size s
+  pub low : high_correlation s ≡ None
 
 -- the first number above 100 is one of the numbers
 above_ways : (place : ℕ) (s : List ℕ) (P : Option ℕ → Type 0) → ((p : ℕ) → p < place + length s → P (Some p)) → P None → P (first_above place s)
@@ -42,8 +43,8 @@ module _ (s : List ℕ) (long : 86 ≤ length s) where
       cond_both (nat_le 1 (beams s) && (nat_le (beams s) 5 && nat_le 1 (cells s))) _ _ P
       (λ _. cond_both (nat_le (arrays_end s) (data_size s)) _ _ P
       (λ e. let most : arrays_end s ≤ data_size s = leb-true (arrays_end s) (data_size s) e in
-      high_ways most (λ f. P (df3_correlated s f)) (λ p l. bad 17 p (omega arith) (λ z. omega arith) (omega arith) l)
-      (good (record { long = long; least = least; most = most })))
+      high_ways most (λ f. high_correlation s ≡ f → P (df3_correlated s f)) (λ p l _. bad 17 p (omega arith) (λ z. omega arith) (omega arith) l)
+      (λ low. good (record { long = long; least = least; most = most; low = low })) refl)
       (λ _. bad 16 12 (omega arith) (λ z. omega arith) (omega arith) (omega arith)))
       (λ _. bad 15 40 (omega arith) (λ z. omega arith) (omega arith) (omega arith))
 
@@ -68,6 +69,10 @@ module _ (kind : ℕ) (s : List ℕ) where
 
   pub df3_accepted : (df3_meaning kind s).judgement ≡ Ok tt → (df3_meaning kind s ≡ accepted (df3_parts s)) × Good s
   df3_accepted = ways (λ m. m.judgement ≡ Ok tt → (m ≡ accepted (df3_parts s)) × Good s) (λ g _. (refl, g)) (λ _ _ _ _ _ _ e. not_both (sym e)) (λ e. not_both (sym e))
+
+  -- no correlation of an accepted record is above 100
+  pub none_high : (df3_meaning kind s).judgement ≡ Ok tt → high_correlation s ≡ None
+  none_high e = (df3_accepted e).1.low
 
 -- the spare bytes up to an offset, arrays of v, a and n items, and the tail of some data
 abbrev others : ℕ → ℕ → ℕ → ℕ → ℕ → List Shape
