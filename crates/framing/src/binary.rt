@@ -35,12 +35,20 @@ fn data_size(header: &[u8; HEADER]) -> Option<usize>
     Some(size)
 }
 
+// The checksum of a frame's data. Not inlined: a search for the next record would step the pointers of its loop at each byte.
+#[inline(never)]
+fn data_sum(body: &[u8]) -> u16
+    ensures { result ≡ checksum body.now }
+{
+    checksum_of(body)
+}
+
 // The verdict once the data are there: a frame, if they have the checksum that the header says.
 fn data_verdict(header: &[u8; HEADER], body: &[u8]) -> Verdict
     ensures { result ≡ (if nat_eq (checksum body.now) (word header.now 6) then Verdict.Frame (10 + length body.now) 1 else Verdict.NoFrame) }
 {
     let sum = u16::from_le_bytes([header[6], header[7]]);
-    if checksum_of(body) != sum {
+    if data_sum(body) != sum {
         return Verdict::NoFrame;
     }
     Verdict::Frame {
@@ -50,6 +58,7 @@ fn data_verdict(header: &[u8; HEADER], body: &[u8]) -> Verdict
 }
 
 // The verdict on some bytes, step by step.
+#[inline(always)]
 fn judge(bytes: &[u8]) -> Verdict
     ensures { result ≡ judged binary_plan bytes.now }
 {
@@ -84,6 +93,7 @@ impl Framing for Binary {
 
     ghost lawful = { λ f. binary_lawful };
 
+    #[inline(always)]
     fn look(&self, bytes: &[u8]) -> Verdict
         ensures verdict { result ≡ judged binary_plan bytes.now }
         ensures frames { ExactlyFrames bytes.now result }

@@ -18,8 +18,6 @@ fn word_sum(words: &[[u8; 2]]) -> u16
 }
 
 // S of the bytes: the start value, their 16-bit little-endian words, and a last odd byte as a high byte, modulo 65,536.
-// Not inlined: a search for the next record would step the loop's pointers at each byte.
-#[inline(never)]
 #[tactic(auto, using(crate::proofs::Sums::even_sum, crate::proofs::Sums::odd_sum))]
 pub fn checksum_of(bytes: &[u8]) -> u16
     ensures { result ≡ checksum bytes.now }

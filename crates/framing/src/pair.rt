@@ -13,6 +13,7 @@ impl<A: Framing, B: Framing> Framing for Pair<A, B> {
 
     ghost lawful = { λ f. pair_lawful (A.Framing.lawful f.first) (B.Framing.lawful f.second) };
 
+    #[inline(always)]
     fn look(&self, bytes: &[u8]) -> Verdict {
         match self.first.look(bytes) {
             Verdict::NoFrame => self.second.look(bytes),

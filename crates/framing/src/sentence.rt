@@ -20,7 +20,7 @@ fn is_payload(b: u8) -> bool
     matches!(b, 0x20..=0x7E) && b != b'$' && b != b'*'
 }
 
-// How many payload bytes stand in front. Not inlined, as the checksum of frames is not.
+// How many payload bytes stand in front. Not inlined, as the checksum of a frame's data is not.
 #[inline(never)]
 fn payload_run(bytes: &[u8]) -> usize
     ensures value { result ≡ prefix_len payload bytes.now }
@@ -100,6 +100,7 @@ fn close(text: &[u8], mark: u8, rest: &[u8]) -> Verdict
 }
 
 // The verdict on some bytes, step by step.
+#[inline(always)]
 #[tactic(auto, using(crate::specs::SentencePlan::near_count, crate::specs::SentencePlan::too_many, crate::specs::SentencePlan::open_ended, crate::specs::SentencePlan::closes))]
 fn judge(bytes: &[u8]) -> Verdict
     ensures { result ≡ judged sentence_plan bytes.now }
@@ -128,6 +129,7 @@ impl Framing for Sentence {
 
     ghost lawful = { λ f. sentence_lawful };
 
+    #[inline(always)]
     fn look(&self, bytes: &[u8]) -> Verdict
         ensures verdict { result ≡ judged sentence_plan bytes.now }
         ensures sentences { ExactlySentences bytes.now result }

@@ -13,10 +13,10 @@ pub enum Next {
     End { place: usize },
 }
 
-// Works the reading of the bytes on from a place, to the next record or to where it stops or ends. Not inlined: its loop takes a turn for each byte of
-// noise, and is short only where a caller's values do not take its registers.
+// Searches for the next record from a place on, byte by byte. Not inlined: its loop takes a turn for each byte of noise, and is short only where a
+// caller's values do not take its registers.
 #[inline(never)]
-pub fn next_record<F: Framing>(framing: &F, bytes: &[u8], from: usize, closed: bool) -> Next
+fn search<F: Framing>(framing: &F, bytes: &[u8], from: usize, closed: bool) -> Next
     ensures { NextOf (F.Framing.verdict framing.now) closed bytes.now from result }
 {
     for place in from..bytes.len() {
@@ -29,6 +29,26 @@ pub fn next_record<F: Framing>(framing: &F, bytes: &[u8], from: usize, closed: b
     }
     Next::End {
         place: from.max(bytes.len()),
+    }
+}
+
+// Works the reading of the bytes on from a place, to the next record or to where it stops or ends. Mostly one record stands behind the other, and
+// nothing has to be searched for.
+pub fn next_record<F: Framing>(framing: &F, bytes: &[u8], from: usize, closed: bool) -> Next
+    ensures { NextOf (F.Framing.verdict framing.now) closed bytes.now from result }
+{
+    if from >= bytes.len() {
+        return Next::End { place: from };
+    }
+    match framing.look(&bytes[from..]) {
+        Verdict::Frame { len, kind } => Next::Record {
+            place: from,
+            len,
+            kind,
+        },
+        Verdict::Short if !closed => Next::End { place: from },
+        Verdict::Short => search(framing, bytes, from + 1, closed),
+        Verdict::NoFrame => search(framing, bytes, from + 1, closed),
     }
 }
 

@@ -29,7 +29,7 @@ abbrev pub unread : Result Taken Fault → Result (Option Refusal) Error → Typ
 unread (Err f) r = r ≡ Ok (Some (told f))
 unread (Ok a) r = IsErr r
 
--- No byte can be read, since a piece has no room. What waits is taken, as where nothing is fed.
+-- No byte can be read, since a piece has no room. What waits is taken, as by a feed of no bytes that is not the last.
 pub record WithoutBytes (t : Terms) (v v' : View) (es es' : List Entry) (x y : List ℕ) (r : Result (Option Refusal) Error) : Type 0 where
   pub answer : Result Taken Fault
   pub does : Feeding t [] false v v' es es' x y answer

@@ -1,5 +1,5 @@
 // Standard input, fed to an intake.
-ghost use Rattle.std.specs.Prelude.{◌≡◌, ◌≤◌, length, drop, nat_lt, IfOk, IsErr};
+ghost use Rattle.std.specs.Prelude.{◌≡◌, ◌≤◌, length, drop, nat_lt, IfOk};
 ghost use Rattle.common.specs.Lists.{items, room};
 ghost use Rattle.common.specs.Tables.{SameTable};
 ghost use Rattle.stream.specs.View.{view, terms};
@@ -34,7 +34,7 @@ pub fn next_piece(
     Ok((n, n < free))
 }
 
-// Takes what waits of an open stream, where no piece has room for a byte: a refusal is told, and else that reading on would bring nothing.
+// Takes what waits, where no piece has room for a byte: a refusal is told, and else that reading on would bring nothing.
 fn take_what_waits<F: Framing, G: Format>(
     framing: &F,
     formats: &G,

@@ -1,6 +1,6 @@
 use Rattle.std.proofs.Common.{ℕ, List}
 use Rattle.reading.specs.Reading.{Found, Reading}
-use Rattle.reading.proofs.steps.next_record.Given as goal
+use Rattle.reading.proofs.steps.search.Given as goal
 
 -- a reading from here is one from the start
 abbrev pub invariant-loop-place : goal.invariant-loop-place
